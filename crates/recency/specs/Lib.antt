@@ -1,1 +1,3 @@
 pub mod Row
+pub mod Hash
+pub mod Sound

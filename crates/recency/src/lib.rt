@@ -6,7 +6,7 @@
 // specs/Sound.antt.
 mod layout;
 mod ring;
-//mod table;
+mod table;
 //mod uses;
 
 pub use layout::MAX_CAPACITY;
