@@ -1,2 +1,3 @@
 pub mod Homes
+pub mod Frames
 pub mod Cells

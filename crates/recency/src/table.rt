@@ -4,7 +4,7 @@ ghost use Prim.Native.Nat.{ℕ, _+_, _*_, _≤_, _<_};
 ghost use lib.ListN.{length};
 ghost use Rattle.recency.specs.Hash.{home, mixed};
 ghost use Rattle.recency.specs.Row.{count, used, held, cell};
-ghost use Rattle.recency.specs.Sound.{Sized, Finds, Noted, Kept};
+ghost use Rattle.recency.specs.Sound.{Sized, Finds, Noted, Kept, Table};
 
 // The page's bits, mixed: two multiplications, so that no stride of pages falls together.
 fn mix(page: u64) -> u64
@@ -73,4 +73,47 @@ fn enter(row: &mut [u64], k: usize, slot: usize)
     let p = vacant(row, k, row[4 + 3 * slot]);
     row[5 + 3 * k + p] = slot as u64;
     row[1] += 1;
+}
+
+// Empties the table.
+fn wipe(row: &mut [u64], k: usize)
+    requires sized { ⌜ Sized k (now row) ⌝ }
+    ensures used { λ _. ⌜ used (now (row .exit)) ≡ 0 ⌝ }
+    ensures empty { λ _. ⌜ ((p : ℕ) → p < 6 * k → cell k (now (row .exit)) p ≡ 0) ⌝ }
+    ensures kept { λ _. ⌜ Kept k (now (row .entry)) (now (row .exit)) ⌝ }
+{
+    for p in 0..6 * k {
+        row[5 + 3 * k + p] = 0;
+    }
+    row[1] = 0;
+}
+
+// Empties the table and notes every slot with a page again.
+fn rebuild(row: &mut [u64], k: usize)
+    requires sized { ⌜ Sized k (now row) ⌝ }
+    ensures used { λ _. ⌜ used (now (row .exit)) ≡ count (now (row .entry)) ⌝ }
+    ensures kept { λ _. ⌜ Kept k (now (row .entry)) (now (row .exit)) ⌝ }
+    ensures table { λ _. ⌜ Finds k (now (row .exit)) ⌝ }
+{
+    wipe(row, k);
+    for slot in 1..row[0] as usize + 1 {
+        enter(row, k, slot);
+    }
+}
+
+// Has a slot found that has a new page. Once 2 * k cells are used, those of pages that are gone are cleared out first.
+pub(crate) fn note(row: &mut [u64], k: usize, slot: usize)
+    requires sized { ⌜ Sized k (now row) ⌝ }
+    requires low { ⌜ 1 ≤ slot ⌝ }
+    requires high { ⌜ slot ≤ count (now row) ⌝ }
+    requires table { ⌜ Table k (now row) (λ s. s ≡ slot → ⊥) ⌝ }
+    ensures kept { λ _. ⌜ Kept k (now (row .entry)) (now (row .exit)) ⌝ }
+    ensures sized { λ _. ⌜ Sized k (now (row .exit)) ⌝ }
+    ensures table { λ _. ⌜ Finds k (now (row .exit)) ⌝ }
+{
+    if row[1] as usize == 2 * k {
+        rebuild(row, k);
+    } else {
+        enter(row, k, slot);
+    }
 }

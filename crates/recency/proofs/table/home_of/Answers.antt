@@ -9,5 +9,5 @@ pub returns : need.returns
 unfolding home
 returns c =
     let e : c .mix .result / 2 ^ 32 * (4 * c .args .k) / 2 ^ 32 ≡ home (c .args .k) (c .args .page) =
-        ap (λ (x : ℕ). x / 2 ^ 32 * (4 * c .args .k) / 2 ^ 32) (c .mix .ensures .value) in
+    ap (λ (x : ℕ). x / 2 ^ 32 * (4 * c .args .k) / 2 ^ 32) (c .mix .ensures .value) in
     record { value = e; bound = omega (arith, e, home-below (c .args .k) (c .args .page) (c .pre .low)) }
