@@ -1,3 +1,4 @@
 pub mod Homes
 pub mod Frames
 pub mod Cells
+pub mod Links
