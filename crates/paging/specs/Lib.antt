@@ -1,3 +1,4 @@
+pub mod Claims
 pub mod Lists
 pub mod Lru
 pub mod Schedules
