@@ -1,12 +1,14 @@
 -- What is claimed about paging: each is a statement, and src/ has a function for each whose contract says that it holds.
 -- Assumes nothing.
 use mathlib.Core.Bool.{true}
-use mathlib.Core.List.{List, []}
+use mathlib.Core.List.{List, [], _++_}
 use mathlib.Core.Path.{_≡_}
 use Prim.Native.Nat.{ℕ, suc, _+_, _*_, _-_, _≤_, _<_}
-use lib.ListN.{length}
-use Rattle.paging.specs.Lru.{lru-fetches}
+use lib.ListN.{length, take}
+use Rattle.paging.specs.Lists.{has, distinct}
+use Rattle.paging.specs.Lru.{lru-fetches, lru-after}
 use Rattle.paging.specs.Schedules.{feasible, schedule-fetches}
+use Rattle.paging.specs.Stretches.{last-requested}
 
 -- LRU with k places fetches at most k / (k - h + 1) times what any schedule with h places fetches, however much that one knows of the
 -- trace. Both begin with an empty cache.
@@ -20,3 +22,22 @@ abbrev pub Competitive-from : Type 0
 Competitive-from =
     (k h : ℕ) (cache trace start : List ℕ) (schedule : List (List ℕ)) → 0 < h → h ≤ k → feasible h start trace schedule ≡ true →
     (suc k - h) * lru-fetches k cache trace ≤ k * (length start + schedule-fetches start trace schedule)
+
+-- More places never fetch more: what the smaller cache holds is the beginning of what the larger one holds.
+abbrev pub Inclusion : Type 0
+Inclusion =
+    (k j : ℕ) (trace : List ℕ) → k ≤ j →
+    (lru-after k [] trace ≡ take k (lru-after j [] trace)) × (lru-fetches j [] trace ≤ lru-fetches k [] trace)
+
+-- The cache holds the pages requested last, each once, at most as many as it has places.
+abbrev pub Recency : Type 0
+Recency =
+    (k : ℕ) (trace : List ℕ) →
+    (lru-after k [] trace ≡ take k (last-requested trace [])) × (distinct (lru-after k [] trace) ≡ true) × (length (lru-after k [] trace) ≤ k)
+
+-- A trace in two parts: the fetches of the parts add up, and the second part costs no more than it would from an empty cache.
+abbrev pub Split : Type 0
+Split =
+    (k : ℕ) (trace rest : List ℕ) →
+    (lru-fetches k [] (trace ++ rest) ≡ lru-fetches k [] trace + lru-fetches k (lru-after k [] trace) rest)
+    × (lru-fetches k (lru-after k [] trace) rest ≤ lru-fetches k [] rest)

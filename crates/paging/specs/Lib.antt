@@ -2,3 +2,4 @@ pub mod Claims
 pub mod Lists
 pub mod Lru
 pub mod Schedules
+pub mod Stretches

@@ -1,5 +1,6 @@
-// What is claimed about paging, and its proofs. No code: each function below says by its contract that a theorem holds.
-ghost use Rattle.paging.specs.Claims.{Competitive, Competitive-from};
+// What is claimed about paging, and its proofs. No code: each function below says by its contract that a theorem of specs/Claims.antt
+// holds, and its file in proofs/ cites the lemma that shows it.
+ghost use Rattle.paging.specs.Claims.{Competitive, Competitive-from, Inclusion, Recency, Split};
 
 // LRU with k places fetches at most k / (k - h + 1) times what any schedule with h places fetches, both from empty caches.
 pub fn competitive_stands() -> u8
@@ -11,6 +12,27 @@ pub fn competitive_stands() -> u8
 // The same from any two caches, where the pages that the schedule begins with count as fetched.
 pub fn competitive_from_stands() -> u8
     ensures { λ _. ⌜ Competitive-from ⌝ }
+{
+    0
+}
+
+// More places never fetch more: the smaller LRU cache is the beginning of the larger one.
+pub fn inclusion_stands() -> u8
+    ensures { λ _. ⌜ Inclusion ⌝ }
+{
+    0
+}
+
+// An LRU cache holds the pages requested last, each once, at most as many as it has places.
+pub fn recency_stands() -> u8
+    ensures { λ _. ⌜ Recency ⌝ }
+{
+    0
+}
+
+// The fetches of two parts of a trace add up, and the second costs no more than from an empty cache.
+pub fn split_stands() -> u8
+    ensures { λ _. ⌜ Split ⌝ }
 {
     0
 }
