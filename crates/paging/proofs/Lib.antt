@@ -4,4 +4,5 @@ pub mod Fronts
 pub mod Lists
 pub mod Recency
 pub mod Schedules
+pub mod Stretches
 pub mod Weights

@@ -8,7 +8,7 @@ use lib.ListN.{length, take}
 use Rattle.paging.specs.Lists.{has, distinct}
 use Rattle.paging.specs.Lru.{lru-fetches, lru-after}
 use Rattle.paging.specs.Schedules.{feasible, schedule-fetches}
-use Rattle.paging.specs.Stretches.{last-requested}
+use Rattle.paging.specs.Stretches.{last-requested, different, missing}
 
 -- LRU with k places fetches at most k / (k - h + 1) times what any schedule with h places fetches, however much that one knows of the
 -- trace. Both begin with an empty cache.
@@ -41,3 +41,13 @@ Split =
     (k : ℕ) (trace rest : List ℕ) →
     (lru-fetches k [] (trace ++ rest) ≡ lru-fetches k [] trace + lru-fetches k (lru-after k [] trace) rest)
     × (lru-fetches k (lru-after k [] trace) rest ≤ lru-fetches k [] rest)
+
+-- In a stretch any schedule fetches each page at least once that does not stand in its cache when the stretch begins.
+abbrev pub Cold-fetches : Type 0
+Cold-fetches =
+    (h : ℕ) (before stretch : List ℕ) (schedule : List (List ℕ)) → feasible h before stretch schedule ≡ true →
+    different (missing before stretch) ≤ schedule-fetches before stretch schedule
+
+-- From an empty cache LRU fetches each page of the trace at least once.
+abbrev pub Compulsory : Type 0
+Compulsory = (k : ℕ) (trace : List ℕ) → different trace ≤ lru-fetches k [] trace

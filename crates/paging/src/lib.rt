@@ -1,6 +1,6 @@
 // What is claimed about paging, and its proofs. No code: each function below says by its contract that a theorem of specs/Claims.antt
 // holds, and its file in proofs/ cites the lemma that shows it.
-ghost use Rattle.paging.specs.Claims.{Competitive, Competitive-from, Inclusion, Recency, Split};
+ghost use Rattle.paging.specs.Claims.{Competitive, Competitive-from, Inclusion, Recency, Split, Cold-fetches, Compulsory};
 
 // LRU with k places fetches at most k / (k - h + 1) times what any schedule with h places fetches, both from empty caches.
 pub fn competitive_stands() -> u8
@@ -33,6 +33,20 @@ pub fn recency_stands() -> u8
 // The fetches of two parts of a trace add up, and the second costs no more than from an empty cache.
 pub fn split_stands() -> u8
     ensures { λ _. ⌜ Split ⌝ }
+{
+    0
+}
+
+// Any schedule fetches each page of a stretch at least once that its cache lacks when the stretch begins.
+pub fn cold_fetches_stands() -> u8
+    ensures { λ _. ⌜ Cold-fetches ⌝ }
+{
+    0
+}
+
+// From an empty cache LRU fetches each page of a trace at least once.
+pub fn compulsory_stands() -> u8
+    ensures { λ _. ⌜ Compulsory ⌝ }
 {
     0
 }
