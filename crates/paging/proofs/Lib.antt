@@ -3,6 +3,7 @@ pub mod Depth
 pub mod Fronts
 pub mod Lists
 pub mod Recency
+pub mod Room
 pub mod Schedules
 pub mod Stretches
 pub mod Weights

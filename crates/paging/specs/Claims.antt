@@ -1,7 +1,7 @@
 -- What is claimed about paging: each is a statement, and src/ has a function for each whose contract says that it holds.
 -- Assumes nothing.
 use mathlib.Core.Bool.{true}
-use mathlib.Core.List.{List, [], _++_}
+use mathlib.Core.List.{List, [], _∷_, _++_}
 use mathlib.Core.Path.{_≡_}
 use Prim.Native.Nat.{ℕ, suc, _+_, _*_, _-_, _≤_, _<_}
 use lib.ListN.{length, take}
@@ -42,6 +42,11 @@ Split =
     (lru-fetches k [] (trace ++ rest) ≡ lru-fetches k [] trace + lru-fetches k (lru-after k [] trace) rest)
     × (lru-fetches k (lru-after k [] trace) rest ≤ lru-fetches k [] rest)
 
+-- In a stretch with at most k different pages LRU with k places fetches each at most once, whatever was requested before it.
+abbrev pub Few-pages : Type 0
+Few-pages =
+    (k : ℕ) (before stretch : List ℕ) → different stretch ≤ k → lru-fetches k (lru-after k [] before) stretch ≤ different stretch
+
 -- In a stretch any schedule fetches each page at least once that does not stand in its cache when the stretch begins.
 abbrev pub Cold-fetches : Type 0
 Cold-fetches =
@@ -51,3 +56,8 @@ Cold-fetches =
 -- From an empty cache LRU fetches each page of the trace at least once.
 abbrev pub Compulsory : Type 0
 Compulsory = (k : ℕ) (trace : List ℕ) → different trace ≤ lru-fetches k [] trace
+
+-- A page stays in the cache while fewer than k different pages are requested after it.
+abbrev pub Retained : Type 0
+Retained =
+    (k page : ℕ) (before between : List ℕ) → different between < k → has (lru-after k [] (before ++ page ∷ between)) page ≡ true

@@ -1,6 +1,6 @@
 // What is claimed about paging, and its proofs. No code: each function below says by its contract that a theorem of specs/Claims.antt
 // holds, and its file in proofs/ cites the lemma that shows it.
-ghost use Rattle.paging.specs.Claims.{Competitive, Competitive-from, Inclusion, Recency, Split, Cold-fetches, Compulsory};
+ghost use Rattle.paging.specs.Claims.{Competitive, Competitive-from, Inclusion, Recency, Split, Few-pages, Cold-fetches, Compulsory, Retained};
 
 // LRU with k places fetches at most k / (k - h + 1) times what any schedule with h places fetches, both from empty caches.
 pub fn competitive_stands() -> u8
@@ -37,6 +37,13 @@ pub fn split_stands() -> u8
     0
 }
 
+// LRU fetches each page at most once in a stretch with at most k different pages.
+pub fn few_pages_stands() -> u8
+    ensures { λ _. ⌜ Few-pages ⌝ }
+{
+    0
+}
+
 // Any schedule fetches each page of a stretch at least once that its cache lacks when the stretch begins.
 pub fn cold_fetches_stands() -> u8
     ensures { λ _. ⌜ Cold-fetches ⌝ }
@@ -47,6 +54,13 @@ pub fn cold_fetches_stands() -> u8
 // From an empty cache LRU fetches each page of a trace at least once.
 pub fn compulsory_stands() -> u8
     ensures { λ _. ⌜ Compulsory ⌝ }
+{
+    0
+}
+
+// LRU keeps a page while fewer than k different pages are requested after it.
+pub fn retained_stands() -> u8
+    ensures { λ _. ⌜ Retained ⌝ }
 {
     0
 }
