@@ -47,7 +47,9 @@ module _ (k j : ℕ) (le : k ≤ j) where
       let i = begins-without page small large b in
       begins-take k j (page ∷ without page small) (page ∷ without page large) le (grind (arith, tells))
 
-  pub begins-after : (small large trace : List ℕ) → begins small large ≡ true → begins (lru-after k small trace) (lru-after j large trace) ≡ true
+  pub begins-after :
+      (small large trace : List ℕ) → begins small large ≡ true →
+      begins (lru-after k small trace) (lru-after j large trace) ≡ true
   unfolding lru-after
   begins-after small large [] b = b
   begins-after small large (page ∷ trace) b = begins-after (lru k small page) (lru j large page) trace (begins-lru small large page b)

@@ -24,7 +24,9 @@ has-missing cache [] x = grind (arith, tells)
 has-missing cache (page ∷ trace) x = let i = has-missing cache trace x in grind (arith, tells)
 
 -- who holds more lacks less
-pub missing-within : (cache larger trace : List ℕ) → Within cache larger → different (missing larger trace) ≤ different (missing cache trace)
+pub missing-within :
+    (cache larger trace : List ℕ) → Within cache larger →
+    different (missing larger trace) ≤ different (missing cache trace)
 unfolding missing different
 missing-within cache larger [] w = omega arith
 missing-within cache larger (page ∷ trace) w =

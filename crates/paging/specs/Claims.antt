@@ -33,7 +33,9 @@ Inclusion =
 abbrev pub Recency : Type 0
 Recency =
     (k : ℕ) (trace : List ℕ) →
-    (lru-after k [] trace ≡ take k (last-requested trace [])) × (distinct (lru-after k [] trace) ≡ true) × (length (lru-after k [] trace) ≤ k)
+    (lru-after k [] trace ≡ take k (last-requested trace []))
+    × (distinct (lru-after k [] trace) ≡ true)
+    × (length (lru-after k [] trace) ≤ k)
 
 -- A trace in two parts: the fetches of the parts add up, and the second part costs no more than it would from an empty cache.
 abbrev pub Split : Type 0

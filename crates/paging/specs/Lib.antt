@@ -3,3 +3,4 @@ pub mod Lists
 pub mod Lru
 pub mod Schedules
 pub mod Stretches
+pub mod Worked
