@@ -1,1 +1,10 @@
 pub mod Appends
+pub mod Competitive
+pub mod Depth
+pub mod Fronts
+pub mod Lists
+pub mod Recency
+pub mod Room
+pub mod Schedules
+pub mod Stretches
+pub mod Weights
