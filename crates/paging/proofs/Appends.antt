@@ -99,3 +99,11 @@ distinct-parts-back xs ys z d there = let p = distinct-parts xs ys z d in grind 
 pub has-later : (x : ℕ) (xs : List ℕ) (y : ℕ) → has xs y ≡ true → has (x ∷ xs) y ≡ true
 unfolding has
 has-later x xs y there = grind (arith, tells)
+
+-- the page where a list is cut may as well stand in front
+pub has-cut : (xs : List ℕ) (x : ℕ) (ys : List ℕ) (z : ℕ) → has (xs ++ x ∷ ys) z ≡ has (x ∷ (xs ++ ys)) z
+unfolding has
+has-cut xs x ys z =
+    let a = has-append xs (x ∷ ys) z in
+    let b = has-append xs ys z in
+    grind (arith, tells)

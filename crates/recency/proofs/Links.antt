@@ -30,6 +30,23 @@ module _ (f g : ℕ → ℕ) where
   chain-back [] a b c = grind (arith, tells)
   chain-back (x ∷ xs) a b c = let i = chain-back xs x b (c .2) in grind (arith, tells)
 
+  -- links lead to slots of the chain, or to its ends
+  pub chain-next : (xs : List ℕ) (a b s : ℕ) → Chain f g a xs b → has (a ∷ xs) s ≡ true → has (b ∷ xs) (f s) ≡ true
+  unfolding Chain has
+  chain-next [] a b s c there = let e : a ≡ s → f a ≡ f s = ap f in grind (arith, tells)
+  chain-next (x ∷ xs) a b s c there =
+      let i = chain-next xs x b s (c .2) in
+      let e : a ≡ s → f a ≡ f s = ap f in
+      grind (arith, tells)
+
+  pub chain-prev : (xs : List ℕ) (a b s : ℕ) → Chain f g a xs b → has (b ∷ xs) s ≡ true → has (a ∷ xs) (g s) ≡ true
+  unfolding Chain has
+  chain-prev [] a b s c there = let e : b ≡ s → g b ≡ g s = ap g in grind (arith, tells)
+  chain-prev (x ∷ xs) a b s c there =
+      let i = chain-prev xs x b s (c .2) in
+      let e : x ≡ s → g x ≡ g s = ap g in
+      grind (arith, tells)
+
   -- what a chain begins with
   pub begins : (x : ℕ) (xs : List ℕ) (a b : ℕ) → Chain f g a (x ∷ xs) b → (f a ≡ x) × (g x ≡ a) × Chain f g x xs b
   unfolding Chain

@@ -3,12 +3,13 @@ use mathlib.Core.Path.{_≡_, refl, ap, sym, _∙_}
 use mathlib.Core.Bool.{Bool, true, false, cond, not, _&&_, _||_}
 use mathlib.Core.List.{List, [], _∷_, _++_, map}
 use native.Mathlib.Omega.{arith}
-use Prim.Native.Nat.{ℕ, suc, _≤_}
+use Prim.Native.Nat.{ℕ, zero, suc, _≤_}
 use lib.Dec.{eqb}
 use lib.ListN.{length}
 use Rattle.std.proofs.shelf.Ways.{tells}
 use Rattle.std.proofs.shelf.Lists.{length-map}
 use Rattle.paging.specs.Lists.{has, distinct}
+use Rattle.paging.proofs.Appends.{has-apart, distinct-cons}
 use Rattle.recency.specs.Row.{count, next, prev, held, walk, pages}
 use Rattle.recency.specs.Sound.{Chain, Linked, Sound}
 use Rattle.recency.proofs.Links.{walk-chain}
@@ -46,3 +47,29 @@ map-same f g (x ∷ xs) same =
     let i = map-same f g xs (λ s h. same s (grind (arith, tells))) in
     let e = same x (grind (arith, tells)) in
     cc
+
+-- slots of the ring are 1 or more
+pub linked-low : (n : ℕ) (row order : List ℕ) → Linked n row order → (s : ℕ) → has order s ≡ true → 1 ≤ s
+linked-low n row order linked s there =
+    let ne = has-apart order s 0 there (distinct-cons 0 order (linked .once) .0) in
+    omega arith
+
+module _ (k : ℕ) (row : List ℕ) (sound : Sound k row) (page : ℕ) where
+  pub page-found : (s : ℕ) → 1 ≤ s → s ≤ count row → held row s ≡ page → has (pages row) page ≡ true
+  page-found s low high e = rw (pages-sound k row sound, ← e) (has-map (held row) (sound .order) s (sound .all s low high))
+
+  pub page-missed : ((s : ℕ) → 1 ≤ s → s ≤ count row → held row s ≡ page → ⊥) → has (pages row) page ≡ false
+  page-missed none =
+      rw (pages-sound k row sound)
+      (has-map-none (held row) (sound .order) page
+      (λ s there e. none s (linked-low (count row) row (sound .order) (sound .linked) s there) (sound .linked .within s there) e))
+
+  -- what `probe` answers tells whether the page is there
+  pub page-there :
+      (r : ℕ) → (1 ≤ r → (r ≤ count row) × (held row r ≡ page)) →
+      (r ≡ 0 → (s : ℕ) → 1 ≤ s → s ≤ count row → held row s ≡ page → ⊥) → has (pages row) page ≡ not (eqb r 0)
+  page-there zero found missed = page-missed (missed refl)
+  page-there (suc r) found missed =
+      let f = found (omega arith) in
+      let there = page-found (suc r) (omega arith) (f .0) (f .1) in
+      grind (arith, tells)

@@ -1,6 +1,6 @@
 -- When a row is well formed. Assumes nothing: these are definitions.
 --     Chain f g a slots b     f leads from a through the slots to b, one to the next, and g leads back
---     Ring row order          order is slots 1 to count, each once, and the links of the row go through it from slot 0 to slot 0
+--     Linked n row order      the links of the row go through order from slot 0 back to slot 0: slots 1 to n, none twice
 --     Placed k row s          the search for the page in slot s comes to a cell that notes s, before the first empty one
 --     Table k row P           every slot with a page that P holds of is found
 --     Noted k row s row'      row' is row with slot s noted in the first empty cell from the home of its page on
@@ -19,12 +19,10 @@ unfoldable pub Chain : (ℕ → ℕ) → (ℕ → ℕ) → ℕ → List ℕ → 
 Chain f g a [] b = (f a ≡ b) × (g b ≡ a)
 Chain f g a (s ∷ slots) b = (f a ≡ s) × (g s ≡ a) × Chain f g s slots b
 
-pub record Ring (row order : List ℕ) : Type 0 where
-  pub linked : Chain (next row) (prev row) 0 order 0
-  pub once : distinct order ≡ true
-  pub many : length order ≡ count row
-  pub live : (s : ℕ) → has order s ≡ true → (1 ≤ s) × (s ≤ count row)
-  pub all : (s : ℕ) → 1 ≤ s → s ≤ count row → has order s ≡ true
+pub record Linked (n : ℕ) (row order : List ℕ) : Type 0 where
+  pub chain : Chain (next row) (prev row) 0 order 0
+  pub once : distinct (0 ∷ order) ≡ true
+  pub within : (s : ℕ) → has order s ≡ true → s ≤ n
 
 pub record Placed (k : ℕ) (row : List ℕ) (s : ℕ) : Type 0 where
   pub at : ℕ
@@ -66,6 +64,8 @@ pub record Sized (k : ℕ) (row : List ℕ) : Type 0 where
 pub record Sound (k : ℕ) (row : List ℕ) : Type 0 where
   pub sized : Sized k row
   pub order : List ℕ
-  pub ring : Ring row order
+  pub linked : Linked (count row) row order
+  pub many : length order ≡ count row
+  pub all : (s : ℕ) → 1 ≤ s → s ≤ count row → has order s ≡ true
   pub once : distinct (map (held row) order) ≡ true
   pub table : Finds k row

@@ -7,12 +7,12 @@
 mod layout;
 mod ring;
 mod table;
-//mod uses;
+mod uses;
 
 pub use layout::MAX_CAPACITY;
 pub use layout::row_len;
-//pub use uses::Outcome;
+pub use uses::Outcome;
 //pub use uses::clear;
-//pub use uses::contains;
+pub use uses::contains;
 //pub use uses::list;
 //pub use uses::request;
