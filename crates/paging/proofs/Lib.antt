@@ -4,6 +4,7 @@ pub mod Depth
 pub mod Fronts
 pub mod Lists
 pub mod Recency
+pub mod Requests
 pub mod Room
 pub mod Schedules
 pub mod Stretches

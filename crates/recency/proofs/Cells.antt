@@ -196,3 +196,32 @@ pub noted-last :
 noted-last k row s row′ sized room noted low high table =
     table-fewer k row′ (λ t. (t ≡ s → ⊥) ⊎ (t ≡ s)) (λ _. Unit {0}) (λ t _ _ _. ⊎-elim inr inl (cases-eq t s))
     (noted-table k row s row′ sized room noted (λ t. t ≡ s → ⊥) low high table)
+
+-- a slot is found as before where the cells and its page are the same
+placed-same :
+    (k : ℕ) (row row′ : List ℕ) (t : ℕ) → ((p : ℕ) → p < 6 * k → cell k row′ p ≡ cell k row p) → held row′ t ≡ held row t → Placed k row t → Placed k row′ t
+placed-same k row row′ t cells e pl =
+    let h : home k (held row′ t) ≡ home k (held row t) = ap (home k) e in
+    let f = pl .from-home in
+    let i = pl .inside in
+    record {
+        at = pl .at;
+        from-home = omega arith;
+        inside = i;
+        noted = cells (pl .at) i ∙ pl .noted;
+        before = λ q from lt. omega (arith, pl .before q (omega arith) lt, cells q (omega arith))
+    }
+
+-- a table is as good where the cells, the counts and the pages of its slots are the same
+pub table-same :
+    (k : ℕ) (row row′ : List ℕ) (P Q : ℕ → Type 0) → count row ≤ count row′ → used row′ ≡ used row → ((p : ℕ) → p < 6 * k → cell k row′ p ≡ cell k row p) →
+    ((t : ℕ) → 1 ≤ t → t ≤ count row′ → Q t → (t ≤ count row) × P t × (held row′ t ≡ held row t)) → Table k row P → Table k row′ Q
+table-same k row row′ P Q more u cells slots table =
+    record {
+        vacant = λ p from lt. cells p lt ∙ table .vacant p (omega arith) lt;
+        within = λ p lt. omega (arith, cells p lt, table .within p lt);
+        placed =
+            λ t low high q.
+                let s = slots t low high q in
+                placed-same k row row′ t cells (s .2) (table .placed t low (s .0) (s .1))
+    }

@@ -4,3 +4,4 @@ pub mod Cells
 pub mod Links
 pub mod Pages
 pub mod Moves
+pub mod Served
