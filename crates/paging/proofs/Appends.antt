@@ -2,12 +2,12 @@
 use mathlib.Core.Path.{_≡_, refl, ap, sym, _∙_}
 use mathlib.Core.Bool.{Bool, true, false, cond, not, _&&_, _||_}
 use mathlib.Core.List.{List, [], _∷_, _++_, map}
-use mathlib.Core.Logic.{_≢_}
+use mathlib.Core.Logic.{_≢_, ⊎-elim}
 use native.Mathlib.Omega.{arith}
 use Prim.Native.Nat.{ℕ}
 use lib.Dec.{eqb}
 use lib.ListN.{length}
-use Rattle.std.proofs.shelf.Tests.{true≢false}
+use Rattle.std.proofs.shelf.Tests.{true≢false, cases-bool}
 use Rattle.std.proofs.shelf.Ways.{tells}
 use Rattle.paging.specs.Lists.{has, without, distinct, last-of}
 
@@ -107,3 +107,13 @@ has-cut xs x ys z =
     let a = has-append xs (x ∷ ys) z in
     let b = has-append xs ys z in
     grind (arith, tells)
+
+pub last-append : (xs : List ℕ) (x : ℕ) → last-of (xs ++ x ∷ []) ≡ x
+unfolding last-of
+last-append [] x = refl
+last-append (y ∷ []) x = refl
+last-append (y ∷ z ∷ xs) x = last-append (z ∷ xs) x
+
+-- what is not in a list, as a test
+pub has-none : (xs : List ℕ) (x : ℕ) → (has xs x ≡ true → ⊥) → has xs x ≡ false
+has-none xs x not-there = ⊎-elim (λ there. absurd (not-there there)) (λ absent. absent) (cases-bool (has xs x))

@@ -5,3 +5,5 @@ pub mod Links
 pub mod Pages
 pub mod Moves
 pub mod Served
+pub mod Admitted
+pub mod Misses

@@ -52,7 +52,7 @@ module _ (f g : ℕ → ℕ) where
   unfolding Chain
   begins x xs a b c = c
 
-  ends : (a b : ℕ) → Chain f g a [] b → (f a ≡ b) × (g b ≡ a)
+  pub ends : (a b : ℕ) → Chain f g a [] b → (f a ≡ b) × (g b ≡ a)
   unfolding Chain
   ends a b c = c
 

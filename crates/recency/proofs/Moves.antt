@@ -16,7 +16,7 @@ use Rattle.recency.proofs.Frames.{Relinked, relinked-trans, relinked-set}
 use Rattle.recency.proofs.Links.{chain-same, chain-unlink, chain-push, chain-next, chain-prev}
 
 -- what stands in order lies within n, and so does slot 0
-linked-end : (n : ℕ) (row order : List ℕ) → Linked n row order → (s : ℕ) → has (0 ∷ order) s ≡ true → s ≤ n
+pub linked-end : (n : ℕ) (row order : List ℕ) → Linked n row order → (s : ℕ) → has (0 ∷ order) s ≡ true → s ≤ n
 unfolding has
 linked-end n row order linked s there = let w = linked .within s in grind (arith, tells)
 
@@ -48,6 +48,16 @@ module _ (k : ℕ) (row : List ℕ) (long : 9 * k + 5 ≤ length row) (s : ℕ) 
         (relinked-set k row (2 + 3 * prev row s) (prev row s) (next row s) before (inl refl))
         (relinked-set k (set row (2 + 3 * prev row s) (next row s)) (3 + 3 * next row s) (next row s) (prev row s) after (inr refl))
 
+  pub pushed-relinked : next row 0 ≤ k → Relinked k row (pushed row s)
+  pushed-relinked head =
+      let a = set row (2 + 3 * s) (next row 0) in
+      let b = set a (3 + 3 * s) 0 in
+      let c = set b (3 + 3 * next row 0) s in
+      relinked-trans k row a (pushed row s) (relinked-set k row (2 + 3 * s) s (next row 0) inside (inl refl))
+      (relinked-trans k a b (pushed row s) (relinked-set k a (3 + 3 * s) s 0 inside (inr refl))
+      (relinked-trans k b c (pushed row s) (relinked-set k b (3 + 3 * next row 0) (next row 0) s head (inr refl))
+      (relinked-set k c 2 0 s (omega arith) (inl refl))))
+
   module _ (head : next row 0 ≤ k) (some : s ≢ 0) (new : next row 0 ≢ s) where
     next-pushed-0 : next (pushed row s) 0 ≡ s
     next-pushed-0 = grind (arith, getD-set-same, getD-set-other, length-set)
@@ -66,16 +76,6 @@ module _ (k : ℕ) (row : List ℕ) (long : 9 * k + 5 ≤ length row) (s : ℕ) 
 
     prev-pushed-else : (i : ℕ) → i ≢ s → i ≢ next row 0 → prev (pushed row s) i ≡ prev row i
     prev-pushed-else i ns nh = grind (arith, getD-set-same, getD-set-other, length-set)
-
-    pub pushed-relinked : Relinked k row (pushed row s)
-    pushed-relinked =
-        let a = set row (2 + 3 * s) (next row 0) in
-        let b = set a (3 + 3 * s) 0 in
-        let c = set b (3 + 3 * next row 0) s in
-        relinked-trans k row a (pushed row s) (relinked-set k row (2 + 3 * s) s (next row 0) inside (inl refl))
-        (relinked-trans k a b (pushed row s) (relinked-set k a (3 + 3 * s) s 0 inside (inr refl))
-        (relinked-trans k b c (pushed row s) (relinked-set k b (3 + 3 * next row 0) (next row 0) s head (inr refl))
-        (relinked-set k c 2 0 s (omega arith) (inl refl))))
 
 pushed-once : (z : ℕ) (xs : List ℕ) (s : ℕ) → has (z ∷ xs) s ≡ false → distinct (z ∷ xs) ≡ true → distinct (z ∷ s ∷ xs) ≡ true
 unfolding has distinct

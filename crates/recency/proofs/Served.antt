@@ -16,7 +16,6 @@ use Rattle.recency.specs.Row.{count, used, next, prev, held, cell, pages, unli
 use Rattle.recency.specs.Sound.{Chain, Linked, Placed, Table, Finds, Sized, Sound}
 use Rattle.recency.proofs.Cells.{table-same}
 use Rattle.recency.proofs.Frames.{Relinked, relinked-trans}
-use Rattle.recency.proofs.Links.{chain-next}
 use Rattle.recency.proofs.Moves.{linked-next, linked-prev, linked-unlinked, linked-pushed, unlinked-relinked, pushed-relinked}
 use Rattle.recency.proofs.Pages.{pages-linked, pages-sound, length-pages, map-same, linked-low}
 
@@ -50,20 +49,20 @@ served k row page row′ order sound sized linked many all table holds beyond =
 
 -- the links alone have changed
 module _ (k : ℕ) (row row′ : List ℕ) (links : Relinked k row row′) where
-  relinked-count : count row′ ≡ count row
+  pub relinked-count : count row′ ≡ count row
   relinked-count = links .heads 0 (omega arith)
 
-  relinked-used : used row′ ≡ used row
+  pub relinked-used : used row′ ≡ used row
   relinked-used = links .heads 1 (omega arith)
 
-  relinked-sized : Sized k row → Sized k row′
+  pub relinked-sized : Sized k row → Sized k row′
   relinked-sized sized =
       let c = relinked-count in
       let u = relinked-used in
       let l = links .len in
       record { low = sized .low; high = sized .high; long = omega arith; few = omega arith; spent = omega arith }
 
-  relinked-table : (P : ℕ → Type 0) → Table k row P → Table k row′ P
+  pub relinked-table : (P : ℕ → Type 0) → Table k row P → Table k row′ P
   relinked-table P table =
       let c = relinked-count in
       table-same k row row′ P P (omega arith) relinked-used (λ p lt. links .cells p) (λ t low high q. (omega arith, q, links .pages t)) table
@@ -113,10 +112,8 @@ put k n row s rest long few linked absent le =
     let inside : s ≤ k = omega arith in
     let h = linked-next n row rest linked 0 (has-first 0 rest) in
     let head : next row 0 ≤ k = omega arith in
-    let some : s ≢ 0 = λ e. has-tail 0 rest s absent .0 (sym e) in
-    let to-head = chain-next (next row) (prev row) rest 0 0 0 (linked .chain) (has-first 0 rest) in
     record {
-        links = pushed-relinked k row long s inside head some (has-apart (0 ∷ rest) (next row 0) s to-head absent);
+        links = pushed-relinked k row long s inside head;
         linked = linked-pushed k n row long few rest s linked absent le
     }
 
