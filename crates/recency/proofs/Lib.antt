@@ -7,3 +7,4 @@ pub mod Moves
 pub mod Served
 pub mod Admitted
 pub mod Misses
+pub mod Outcomes

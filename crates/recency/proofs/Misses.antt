@@ -26,7 +26,7 @@ module _ (k : ℕ) (row : List ℕ) (sound : Sound k row) (room : count row < k)
   abbrev ready : List ℕ
   ready = set row 0 (count row + 1)
 
-  ready-count : count ready ≡ count row + 1
+  pub ready-count : count ready ≡ count row + 1
   ready-count = let long = sound .sized .long in getD-set-same row 0 (count row + 1) 0 (omega arith)
 
   else-same : (i : ℕ) → 0 < i → getD ready i 0 ≡ getD row i 0

@@ -15,4 +15,4 @@ pub use uses::Outcome;
 //pub use uses::clear;
 pub use uses::contains;
 //pub use uses::list;
-//pub use uses::request;
+pub use uses::request;
