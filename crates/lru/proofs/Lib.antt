@@ -2,3 +2,4 @@ pub mod Scans
 pub mod Faults
 pub mod Hits
 pub mod Cleared
+pub mod Written

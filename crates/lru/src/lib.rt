@@ -2,6 +2,10 @@
 mod checks;
 mod refusals;
 mod replies;
+mod rows;
 
+pub use checks::check;
 pub use refusals::Refusal;
 pub use replies::Reply;
+pub use rows::close;
+pub use rows::open;
