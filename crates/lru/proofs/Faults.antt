@@ -49,9 +49,9 @@ fine at seen (y ∷ ys) is =
     let o = rest .once in
     let ap-y = rest .apart y in
     record {
-        once = grind (arith, tells);
-        small = λ x there. (let s = rest .small x in grind (arith, tells));
-        apart = λ x there. (let a = rest .apart x in let e : y ≡ x → has seen y ≡ has seen x = ap (has seen) in grind (arith, tells))
+      once = grind (arith, tells);
+      small = λ x there. (let s = rest .small x in grind (arith, tells));
+      apart = λ x there. (let a = rest .apart x in let e : y ≡ x → has seen y ≡ has seen x = ap (has seen) in grind (arith, tells));
     }
 
 pub fine-none : (at : ℕ) (seen xs : List ℕ) → Fine seen xs → first-bad at seen xs ≡ None
@@ -62,10 +62,10 @@ fine-none at seen (y ∷ ys) f =
     let s = f .small y in
     let a = f .apart y in
     let rest : Fine (y ∷ seen) ys =
-        record {
-            once = grind (arith, tells);
-            small = λ x there. f .small x (grind (arith, tells));
-            apart = λ x there. (let b = f .apart x in let e : y ≡ x → has ys y ≡ has ys x = ap (has ys) in grind (arith, tells))
-        } in
+    record {
+      once = grind (arith, tells);
+      small = λ x there. f .small x (grind (arith, tells));
+      apart = λ x there. (let b = f .apart x in let e : y ≡ x → has ys y ≡ has ys x = ap (has ys) in grind (arith, tells));
+    } in
     let i = fine-none (suc at) (y ∷ seen) ys rest in
     grind (arith, tells)

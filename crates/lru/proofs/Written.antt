@@ -25,7 +25,7 @@ pub read-more :
 read-more k pages i once few lt =
     let d = drop-more pages i 0 lt in
     let apart : distinct (getD pages i 0 ∷ drop (i + 1) pages) ≡ true =
-        ap distinct (sym d) ∙ distinct-back (take i pages) (drop i pages) (ap distinct (take-append-drop i pages) ∙ once) in
+    ap distinct (sym d) ∙ distinct-back (take i pages) (drop i pages) (ap distinct (take-append-drop i pages) ∙ once) in
     let l = length-drop (i + 1) pages in
     lru-free k (getD pages i 0) (drop (i + 1) pages) (distinct-cons (getD pages i 0) (drop (i + 1) pages) apart .0) (omega arith) ∙ sym d
 

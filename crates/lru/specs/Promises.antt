@@ -6,6 +6,7 @@
 --     Left pages cache index ..       the rows hold these pages now: the cache row number by number, the index row as its index; beyond
 --                                     their lengths they are as they were, and the cache row is one that is served again
 --     Bounded k start trace n         n fetches are never much more than what any schedule makes
+--     Served ..                       one request was served: the reply, and the rows
 --     Played ..                       a trace was played: how many fetches, the replies, the rows, and the bound
 use mathlib.Core.Path.{_≡_}
 use mathlib.Core.Bool.{true}
@@ -15,13 +16,13 @@ use lib.ListN.{length, getD, take, drop}
 use Rattle.std.specs.declared.option.Option.{Option}
 use Rattle.std.specs.declared.option.Option.the-variants.{None}
 use Rattle.paging.specs.Lists.{has, distinct}
-use Rattle.paging.specs.Lru.{lru-fetches, lru-after}
+use Rattle.paging.specs.Lru.{lru, lru-fetches, lru-after}
 use Rattle.paging.specs.Schedules.{feasible, schedule-fetches}
 use Rattle.recency.specs.Row as recent
 use Rattle.recency.specs.Sound.{Sound}
 use Rattle.lru.specs.declared.replies.Reply.{Reply}
 use Rattle.lru.specs.Rows.{capacity, cached, row-of, shaped, fault}
-use Rattle.lru.specs.Replies.{replies}
+use Rattle.lru.specs.Replies.{reply, replies}
 
 abbrev pub Small : List ℕ → Type 0
 Small pages = (x : ℕ) → has pages x ≡ true → x < 2 ^ 32
@@ -66,3 +67,8 @@ pub record Played (cache index trace : List ℕ) (told : List Reply) (n : ℕ) (
   pub replied : told′ ≡ take (length told) (replies (capacity cache) (cached cache) trace) ++ drop (length trace) told
   pub left : Left (lru-after (capacity cache) (cached cache) trace) cache index cache′ index′
   pub bounded : Bounded (capacity cache) trace n
+
+-- one request was served: the reply, and the rows
+pub record Served (cache index : List ℕ) (page : ℕ) (r : Reply) (cache′ index′ : List ℕ) : Type 0 where
+  pub value : r ≡ reply (capacity cache) (cached cache) page
+  pub left : Left (lru (capacity cache) (cached cache) page) cache index cache′ index′

@@ -78,7 +78,9 @@ fn scan_apart<const N: usize>(pages: &[u64], k: usize) -> Option<Refusal>
 
 // What a small cache is checked with, and any other. The larger one costs more to clear than a small cache to serve.
 const SMALL: usize = 64;
+
 const SMALL_INDEX: usize = 9 * SMALL + 5;
+
 const LARGE_INDEX: usize = 9 * MAX_CAPACITY + 5;
 
 // The first page of a cache row that stands twice or is too large.
@@ -109,4 +111,16 @@ pub fn check(cache: &[u64], index_len: usize) -> Result<(usize, usize), Refusal>
         Some(refusal) => Err(refusal),
         None => Ok((k, n)),
     }
+}
+
+// The first page of a trace that is not below 2^32.
+pub(crate) fn first_wide(trace: &[u64]) -> Option<Refusal>
+    ensures value { λ r. ⌜ r ≡ first-wide (now (trace .entry)) ⌝ }
+{
+    for page in trace {
+        if *page >= 0x1_0000_0000 {
+            return Some(Refusal::BadRequest(*page));
+        }
+    }
+    None
 }

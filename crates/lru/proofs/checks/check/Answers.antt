@@ -32,16 +32,16 @@ returns-in-None c =
     let none = sym (rw same at (c .in-None .ensures tt .value)) in
     let f = fine 2 [] (cached row) none in
     record {
-        cases = record {
-            capacity-is = s .capacity-is;
-            many = refl;
-            low = s .low;
-            high = s .high;
-            long = s .long;
-            room = s .room;
-            few = omega arith;
-            once = f .once;
-            small = f .small;
-            none = fault-pages row (c .args .index-len) (s .is) few ∙ none
-        }
+      cases = record {
+        capacity-is = s .capacity-is;
+        many = refl;
+        low = s .low;
+        high = s .high;
+        long = s .long;
+        room = s .room;
+        few = omega arith;
+        once = f .once;
+        small = f .small;
+        none = fault-pages row (c .args .index-len) (s .is) few ∙ none;
+      };
     }

@@ -15,7 +15,7 @@ returns c =
     let rest = drop (2 + k) (c .args .cache .now) in
     let many = length-pages k (c .args .index .now) (c .pre .sound) in
     record {
-        after = row-written k (getD (c .args .index .now) 0 0) (c .args .cache .now) (c .put .last .places) (c .pre .long)
-            ∙ ap (λ (n : ℕ). k ∷ n ∷ (c .put .last .places ++ rest)) (sym many)
-            ∙ ap (λ (xs : List ℕ). k ∷ length (recent.pages (c .args .index .now)) ∷ (xs ++ rest)) (c .put .ensures .after)
+      after = row-written k (getD (c .args .index .now) 0 0) (c .args .cache .now) (c .put .last .places) (c .pre .long)
+          ∙ ap (λ (n : ℕ). k ∷ n ∷ (c .put .last .places ++ rest)) (sym many)
+          ∙ ap (λ (xs : List ℕ). k ∷ length (recent.pages (c .args .index .now)) ∷ (xs ++ rest)) (c .put .ensures .after);
     }

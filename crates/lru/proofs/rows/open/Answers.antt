@@ -29,14 +29,13 @@ loop-i-again c =
     let held = c .loop-i .inv .0 .holds ∙ ap (λ (n : ℕ). drop n pages) step in
     let page = cached-at (c .args .cache .now) i (omega arith) in
     let read = read-more k pages i (p .once) (omega arith) (omega arith) in
-    let r = c .request .ensures in
-    (
-        record {
-            sound = r .sound;
-            holds = r .after ∙ ap (λ (xs : List ℕ). lru k xs (getD (c .args .cache .now) (2 + i) 0)) held ∙ ap (lru k (drop (i + 1) pages)) (sym page) ∙ read;
-            beyond = r .beyond ∙ c .loop-i .inv .0 .beyond
-        },
-        c .request .kept .row ∙ c .loop-i .inv .1
+    let r = c .request .ensures in (
+      record {
+        sound = r .sound;
+        holds = r .after ∙ ap (λ (xs : List ℕ). lru k xs (getD (c .args .cache .now) (2 + i) 0)) held ∙ ap (lru k (drop (i + 1) pages)) (sym page) ∙ read;
+        beyond = r .beyond ∙ c .loop-i .inv .0 .beyond;
+      },
+      c .request .kept .row ∙ c .loop-i .inv .1,
     )
 
 pub returns : need.returns

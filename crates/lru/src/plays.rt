@@ -1,0 +1,47 @@
+// Requests to a cache on two lent rows: a whole trace, and one. Both are right for all input, and change nothing where they refuse.
+ghost use mathlib.Core.Path.{_≡_};
+ghost use mathlib.Core.List.{[], _∷_, _++_};
+ghost use Prim.Native.Nat.{_+_, _*_, _≤_};
+ghost use lib.ListN.{length, take, drop, set};
+ghost use Rattle.std.specs.Options.{Cases as BySome};
+ghost use Rattle.std.specs.Results.{Cases};
+ghost use Rattle.std.specs.declared.option.Option.the-variants.{Some, None};
+ghost use Rattle.paging.specs.Lru.{lru-fetches, lru-after};
+ghost use Rattle.recency.specs.Row as recent;
+ghost use Rattle.recency.specs.Sound.{Sound};
+ghost use Rattle.lru.specs.Rows.{first-wide, refusal};
+ghost use Rattle.lru.specs.Replies as answers;
+ghost use Rattle.lru.specs.Promises.{Indexed, Played, Served};
+use crate::checks::check;
+use crate::checks::first_wide;
+use crate::refusals::Refusal;
+use crate::replies::Reply;
+use crate::replies::cost;
+use crate::replies::told;
+use crate::rows::close;
+use crate::rows::open;
+
+// Writes a reply, where there is a place for it.
+fn note(replies: &mut [Reply], i: usize, reply: Reply)
+    ensures after { λ _. ⌜ now (replies .exit) ≡ set (now (replies .entry)) i reply ⌝ }
+{
+    if i < replies.len() {
+        replies[i] = reply;
+    }
+}
+
+// The requests of a trace on an open index: how many were fetched, and the replies as far as there are places for them.
+fn run(index: &mut [u64], k: usize, trace: &[u64], replies: &mut [Reply]) -> u64
+    requires sound { ⌜ Sound k (now index) ⌝ }
+    ensures value { λ r. ⌜ r ≡ lru-fetches k (recent.pages (now (index .entry))) (now (trace .entry)) ⌝ }
+    ensures after { λ _. ⌜ Indexed k (lru-after k (recent.pages (now (index .entry))) (now (trace .entry))) (now (index .entry)) (now (index .exit)) ⌝ }
+    ensures replied { λ _. ⌜ now (replies .exit) ≡ take (length (now (replies .entry))) (answers.replies k (recent.pages (now (index .entry))) (now (trace .entry))) ++ drop (length (now (trace .entry))) (now (replies .entry)) ⌝ }
+{
+    let mut fetches = 0;
+    for i in 0..trace.len() {
+        let outcome = recency::request(index, k, trace[i]);
+        note(replies, i, told(outcome));
+        fetches += cost(outcome);
+    }
+    fetches
+}
