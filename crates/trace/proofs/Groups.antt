@@ -2,11 +2,12 @@
 --     length-requests       there is a request for each whole group
 --     request-at            the request at i is that of the group at 4 * i
 --     decoded-more          one more request written to the front of a row
+--     left-over-is          what is left over is the end of the bytes, after the last whole group
 --     requests-in-pieces    decoding two pieces, the second with what the first left over in front, is decoding the whole
 --     left-over-in-pieces   and so for what is left over at the end
 use mathlib.Core.Path.{_≡_, refl, sym, ap, _∙_}
 use mathlib.Core.List.{List, [], _∷_, _++_, append-assoc}
-use Prim.Native.Nat.{ℕ, zero, suc, _+_, _*_, _/_, _≤_, _<_}
+use Prim.Native.Nat.{ℕ, zero, suc, _+_, _-_, _*_, _/_, _%_, _≤_, _<_}
 use native.Mathlib.Omega.{arith}
 use lib.ListN.{length, getD, set, take, drop}
 use Rattle.std.proofs.shelf.Lists.{take-more, drop-more, set-at, length-take-le}
@@ -51,6 +52,16 @@ pub decoded-more : (bs out now : List ℕ) (i v : ℕ) → i < length bs / 4 →
 decoded-more bs out now i v h g e f =
     let short : i < length (requests-in bs) = omega (arith, length-requests bs) in
     rw (e, f ∙ sym (request-at bs i h)) (filled-more (requests-in bs) out i short g)
+
+pub left-over-is : (bs : List ℕ) → left-over bs ≡ drop (length bs - length bs % 4) bs
+unfolding left-over
+left-over-is [] = refl
+left-over-is (a ∷ []) = refl
+left-over-is (a ∷ b ∷ []) = refl
+left-over-is (a ∷ b ∷ c ∷ []) = refl
+left-over-is (a ∷ b ∷ c ∷ d ∷ rest) =
+    let e : suc (suc (suc (suc (length rest)))) - suc (suc (suc (suc (length rest)))) % 4 ≡ suc (suc (suc (suc (length rest - length rest % 4)))) = omega arith in
+    rw e (left-over-is rest)
 
 pub requests-in-pieces : (xs ys : List ℕ) → requests-in (xs ++ ys) ≡ requests-in xs ++ requests-in (left-over xs ++ ys)
 unfolding requests-in left-over

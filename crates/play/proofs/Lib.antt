@@ -1,0 +1,3 @@
+pub mod Decoded
+pub mod Examples
+pub mod Lines
