@@ -1,0 +1,11 @@
+pub mod Appends
+pub mod Competitive
+pub mod Depth
+pub mod Fronts
+pub mod Lists
+pub mod Recency
+pub mod Requests
+pub mod Room
+pub mod Schedules
+pub mod Stretches
+pub mod Weights

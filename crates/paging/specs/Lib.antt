@@ -1,3 +1,6 @@
+pub mod Claims
 pub mod Lists
 pub mod Lru
 pub mod Schedules
+pub mod Stretches
+pub mod Worked

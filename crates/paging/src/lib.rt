@@ -1,1 +1,74 @@
-// What is claimed about paging, and its proofs. No code: each function below says by its contract that a theorem holds.
+// What is claimed about paging, and its proofs. No code: each function below says by its contract that a theorem of specs/ holds, and
+// its file in proofs/ cites the lemma that shows it.
+ghost use Rattle.paging.specs.Claims.{Competitive, Competitive-from, Inclusion, Recency, Split, Few-pages, Cold-fetches, Compulsory, Retained};
+ghost use Rattle.paging.specs.Worked.{Worked};
+
+// LRU with k places fetches at most k / (k - h + 1) times what any schedule with h places fetches, both from empty caches.
+pub fn competitive_stands() -> u8
+    ensures { λ _. ⌜ Competitive ⌝ }
+{
+    0
+}
+
+// The same from any two caches, where the pages that the schedule begins with count as fetched.
+pub fn competitive_from_stands() -> u8
+    ensures { λ _. ⌜ Competitive-from ⌝ }
+{
+    0
+}
+
+// More places never fetch more: the smaller LRU cache is the beginning of the larger one.
+pub fn inclusion_stands() -> u8
+    ensures { λ _. ⌜ Inclusion ⌝ }
+{
+    0
+}
+
+// An LRU cache holds the pages requested last, each once, at most as many as it has places.
+pub fn recency_stands() -> u8
+    ensures { λ _. ⌜ Recency ⌝ }
+{
+    0
+}
+
+// The fetches of two parts of a trace add up, and the second costs no more than from an empty cache.
+pub fn split_stands() -> u8
+    ensures { λ _. ⌜ Split ⌝ }
+{
+    0
+}
+
+// LRU fetches each page at most once in a stretch with at most k different pages.
+pub fn few_pages_stands() -> u8
+    ensures { λ _. ⌜ Few-pages ⌝ }
+{
+    0
+}
+
+// Any schedule fetches each page of a stretch at least once that its cache lacks when the stretch begins.
+pub fn cold_fetches_stands() -> u8
+    ensures { λ _. ⌜ Cold-fetches ⌝ }
+{
+    0
+}
+
+// From an empty cache LRU fetches each page of a trace at least once.
+pub fn compulsory_stands() -> u8
+    ensures { λ _. ⌜ Compulsory ⌝ }
+{
+    0
+}
+
+// LRU keeps a page while fewer than k different pages are requested after it.
+pub fn retained_stands() -> u8
+    ensures { λ _. ⌜ Retained ⌝ }
+{
+    0
+}
+
+// What LRU does on two traces, counted out, and how it compares with schedules there.
+pub fn worked_stands() -> u8
+    ensures { λ _. ⌜ Worked ⌝ }
+{
+    0
+}

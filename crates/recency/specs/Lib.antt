@@ -1,1 +1,4 @@
 pub mod Row
+pub mod Hash
+pub mod Sound
+pub mod Outcome

@@ -10,6 +10,7 @@
 --     pages row         the pages that the row holds, the one used last first
 --     unlinked row s    the row with slot s taken out of the ring
 --     pushed row s      the row with slot s put in front
+--     admitted row s x  the row with page x in slot s, put in front
 use mathlib.Core.Bool.{cond, _&&_}
 use mathlib.Core.List.{List, [], _∷_, map}
 use Prim.Native.Nat.{ℕ, zero, suc, _+_, _*_}
@@ -51,3 +52,6 @@ unlinked row s = set (set row (2 + 3 * prev row s) (next row s)) (3 + 3 * next r
 
 abbrev pub pushed : List ℕ → ℕ → List ℕ
 pushed row s = set (set (set (set row (2 + 3 * s) (next row 0)) (3 + 3 * s) 0) (3 + 3 * next row 0) s) 2 s
+
+abbrev pub admitted : List ℕ → ℕ → ℕ → List ℕ
+admitted row s x = pushed (set row (4 + 3 * s) x) s

@@ -6,13 +6,13 @@
 // specs/Sound.antt.
 mod layout;
 mod ring;
-//mod table;
-//mod uses;
+mod table;
+mod uses;
 
 pub use layout::MAX_CAPACITY;
 pub use layout::row_len;
-//pub use uses::Outcome;
+pub use uses::Outcome;
 //pub use uses::clear;
-//pub use uses::contains;
+pub use uses::contains;
 //pub use uses::list;
-//pub use uses::request;
+pub use uses::request;

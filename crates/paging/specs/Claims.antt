@@ -1,0 +1,65 @@
+-- What is claimed about paging: each is a statement, and src/ has a function for each whose contract says that it holds.
+-- Assumes nothing.
+use mathlib.Core.Bool.{true}
+use mathlib.Core.List.{List, [], _∷_, _++_}
+use mathlib.Core.Path.{_≡_}
+use Prim.Native.Nat.{ℕ, suc, _+_, _*_, _-_, _≤_, _<_}
+use lib.ListN.{length, take}
+use Rattle.paging.specs.Lists.{has, distinct}
+use Rattle.paging.specs.Lru.{lru-fetches, lru-after}
+use Rattle.paging.specs.Schedules.{feasible, schedule-fetches}
+use Rattle.paging.specs.Stretches.{last-requested, different, missing}
+
+-- LRU with k places fetches at most k / (k - h + 1) times what any schedule with h places fetches, however much that one knows of the
+-- trace. Both begin with an empty cache.
+abbrev pub Competitive : Type 0
+Competitive =
+    (k h : ℕ) (trace : List ℕ) (schedule : List (List ℕ)) → 0 < h → h ≤ k → feasible h [] trace schedule ≡ true →
+    (suc k - h) * lru-fetches k [] trace ≤ k * schedule-fetches [] trace schedule
+
+-- The same from any two caches, where the pages that the schedule begins with count as fetched.
+abbrev pub Competitive-from : Type 0
+Competitive-from =
+    (k h : ℕ) (cache trace start : List ℕ) (schedule : List (List ℕ)) → 0 < h → h ≤ k → feasible h start trace schedule ≡ true →
+    (suc k - h) * lru-fetches k cache trace ≤ k * (length start + schedule-fetches start trace schedule)
+
+-- More places never fetch more: what the smaller cache holds is the beginning of what the larger one holds.
+abbrev pub Inclusion : Type 0
+Inclusion =
+    (k j : ℕ) (trace : List ℕ) → k ≤ j →
+    (lru-after k [] trace ≡ take k (lru-after j [] trace)) × (lru-fetches j [] trace ≤ lru-fetches k [] trace)
+
+-- The cache holds the pages requested last, each once, at most as many as it has places.
+abbrev pub Recency : Type 0
+Recency =
+    (k : ℕ) (trace : List ℕ) →
+    (lru-after k [] trace ≡ take k (last-requested trace []))
+    × (distinct (lru-after k [] trace) ≡ true)
+    × (length (lru-after k [] trace) ≤ k)
+
+-- A trace in two parts: the fetches of the parts add up, and the second part costs no more than it would from an empty cache.
+abbrev pub Split : Type 0
+Split =
+    (k : ℕ) (trace rest : List ℕ) →
+    (lru-fetches k [] (trace ++ rest) ≡ lru-fetches k [] trace + lru-fetches k (lru-after k [] trace) rest)
+    × (lru-fetches k (lru-after k [] trace) rest ≤ lru-fetches k [] rest)
+
+-- In a stretch with at most k different pages LRU with k places fetches each at most once, whatever was requested before it.
+abbrev pub Few-pages : Type 0
+Few-pages =
+    (k : ℕ) (before stretch : List ℕ) → different stretch ≤ k → lru-fetches k (lru-after k [] before) stretch ≤ different stretch
+
+-- In a stretch any schedule fetches each page at least once that does not stand in its cache when the stretch begins.
+abbrev pub Cold-fetches : Type 0
+Cold-fetches =
+    (h : ℕ) (before stretch : List ℕ) (schedule : List (List ℕ)) → feasible h before stretch schedule ≡ true →
+    different (missing before stretch) ≤ schedule-fetches before stretch schedule
+
+-- From an empty cache LRU fetches each page of the trace at least once.
+abbrev pub Compulsory : Type 0
+Compulsory = (k : ℕ) (trace : List ℕ) → different trace ≤ lru-fetches k [] trace
+
+-- A page stays in the cache while fewer than k different pages are requested after it.
+abbrev pub Retained : Type 0
+Retained =
+    (k page : ℕ) (before between : List ℕ) → different between < k → has (lru-after k [] (before ++ page ∷ between)) page ≡ true

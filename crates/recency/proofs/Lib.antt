@@ -1,0 +1,10 @@
+pub mod Homes
+pub mod Frames
+pub mod Cells
+pub mod Links
+pub mod Pages
+pub mod Moves
+pub mod Served
+pub mod Admitted
+pub mod Misses
+pub mod Outcomes
