@@ -4,9 +4,9 @@ use mathlib.Core.Bool.{Bool, true, false, cond, not, _&&_, _||_}
 use mathlib.Core.List.{List, [], _∷_, _++_, map}
 use mathlib.Core.Logic.{_≢_, ⊎-elim}
 use native.Mathlib.Omega.{arith}
-use Prim.Native.Nat.{ℕ}
+use Prim.Native.Nat.{ℕ, zero, suc, _<_}
 use lib.Dec.{eqb}
-use lib.ListN.{length}
+use lib.ListN.{length, getD}
 use Rattle.std.proofs.shelf.Tests.{true≢false, cases-bool}
 use Rattle.std.proofs.shelf.Ways.{tells}
 use Rattle.paging.specs.Lists.{has, without, distinct, last-of}
@@ -117,3 +117,9 @@ last-append (y ∷ z ∷ xs) x = last-append (z ∷ xs) x
 -- what is not in a list, as a test
 pub has-none : (xs : List ℕ) (x : ℕ) → (has xs x ≡ true → ⊥) → has xs x ≡ false
 has-none xs x not-there = ⊎-elim (λ there. absurd (not-there there)) (λ absent. absent) (cases-bool (has xs x))
+
+pub has-at : (xs : List ℕ) (i : ℕ) → i < length xs → has xs (getD xs i 0) ≡ true
+unfolding has
+has-at [] i lt = absurd (omega arith)
+has-at (x ∷ xs) zero lt = grind (arith, tells)
+has-at (x ∷ xs) (suc i) lt = let r = has-at xs i in grind (arith, tells)

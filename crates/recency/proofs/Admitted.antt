@@ -25,10 +25,10 @@ pub linked-same :
     Linked n row order → Linked n row′ order
 linked-same n row row′ order nexts prevs linked =
     record {
-        chain = chain-same (next row) (prev row) (next row′) (prev row′) order 0 0
-            (λ t h. nexts t (linked-end n row order linked t h)) (λ t h. prevs t (linked .within t h)) (prevs 0 (omega arith)) (linked .chain);
-        once = linked .once;
-        within = linked .within
+      chain = chain-same (next row) (prev row) (next row′) (prev row′) order 0 0
+          (λ t h. nexts t (linked-end n row order linked t h)) (λ t h. prevs t (linked .within t h)) (prevs 0 (omega arith)) (linked .chain);
+      once = linked .once;
+      within = linked .within;
     }
 
 module _ (k : ℕ) (row : List ℕ) (s page : ℕ) (sized : Sized k row) (inside : s ≤ k) (head : next row 0 ≤ k) where
@@ -99,8 +99,8 @@ module _
       let long = sized .long in
       let first : held after s ≡ page = after-held s high ∙ getD-set-same base (4 + 3 * s) page 0 (omega arith) in
       let others = map-same (held after) (held row) rest
-          (λ t there. after-held t (linked .within t there)
-          ∙ getD-set-other base (4 + 3 * s) (4 + 3 * t) page 0 (λ e. has-apart rest t s there (has-tail 0 rest s absent .1) (omega arith)) ∙ same t) in
+      (λ t there. after-held t (linked .within t there)
+      ∙ getD-set-other base (4 + 3 * s) (4 + 3 * t) page 0 (λ e. has-apart rest t s there (has-tail 0 rest s absent .1) (omega arith)) ∙ same t) in
       cc
 
   pub admitted-served :

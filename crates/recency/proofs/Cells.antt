@@ -205,11 +205,11 @@ placed-same k row row′ t cells e pl =
     let f = pl .from-home in
     let i = pl .inside in
     record {
-        at = pl .at;
-        from-home = omega arith;
-        inside = i;
-        noted = cells (pl .at) i ∙ pl .noted;
-        before = λ q from lt. omega (arith, pl .before q (omega arith) lt, cells q (omega arith))
+      at = pl .at;
+      from-home = omega arith;
+      inside = i;
+      noted = cells (pl .at) i ∙ pl .noted;
+      before = λ q from lt. omega (arith, pl .before q (omega arith) lt, cells q (omega arith));
     }
 
 -- a table is as good where the cells, the counts and the pages of its slots are the same
@@ -218,10 +218,10 @@ pub table-same :
     ((t : ℕ) → 1 ≤ t → t ≤ count row′ → Q t → (t ≤ count row) × P t × (held row′ t ≡ held row t)) → Table k row P → Table k row′ Q
 table-same k row row′ P Q more u cells slots table =
     record {
-        vacant = λ p from lt. cells p lt ∙ table .vacant p (omega arith) lt;
-        within = λ p lt. omega (arith, cells p lt, table .within p lt);
-        placed =
-            λ t low high q.
-                let s = slots t low high q in
-                placed-same k row row′ t cells (s .2) (table .placed t low (s .0) (s .1))
+      vacant = λ p from lt. cells p lt ∙ table .vacant p (omega arith) lt;
+      within = λ p lt. omega (arith, cells p lt, table .within p lt);
+      placed =
+          λ t low high q.
+          let s = slots t low high q in
+          placed-same k row row′ t cells (s .2) (table .placed t low (s .0) (s .1));
     }

@@ -48,19 +48,19 @@ pub record Relinked (k : ℕ) (row row′ : List ℕ) : Type 0 where
 pub relinked-trans : (k : ℕ) (a b c : List ℕ) → Relinked k a b → Relinked k b c → Relinked k a c
 relinked-trans k a b c x y =
     record {
-        heads = λ i lt. y .heads i lt ∙ x .heads i lt;
-        pages = λ t. y .pages t ∙ x .pages t;
-        cells = λ p. y .cells p ∙ x .cells p;
-        len = y .len ∙ x .len;
-        beyond = y .beyond ∙ x .beyond
+      heads = λ i lt. y .heads i lt ∙ x .heads i lt;
+      pages = λ t. y .pages t ∙ x .pages t;
+      cells = λ p. y .cells p ∙ x .cells p;
+      len = y .len ∙ x .len;
+      beyond = y .beyond ∙ x .beyond;
     }
 
 pub relinked-set : (k : ℕ) (row : List ℕ) (i t v : ℕ) → t ≤ k → (i ≡ 2 + 3 * t) ⊎ (i ≡ 3 + 3 * t) → Relinked k row (set row i v)
 relinked-set k row i t v le link =
     record {
-        heads = λ j lt. getD-set-other row i j v 0 (λ e. ⊎-elim (λ q. omega arith) (λ q. omega arith) link);
-        pages = λ s. getD-set-other row i (4 + 3 * s) v 0 (λ e. ⊎-elim (λ q. omega arith) (λ q. omega arith) link);
-        cells = λ p. getD-set-other row i (5 + 3 * k + p) v 0 (λ e. ⊎-elim (λ q. omega arith) (λ q. omega arith) link);
-        len = length-set row i v;
-        beyond = drop-set-lt (9 * k + 5) row i v (⊎-elim (λ q. omega arith) (λ q. omega arith) link)
+      heads = λ j lt. getD-set-other row i j v 0 (λ e. ⊎-elim (λ q. omega arith) (λ q. omega arith) link);
+      pages = λ s. getD-set-other row i (4 + 3 * s) v 0 (λ e. ⊎-elim (λ q. omega arith) (λ q. omega arith) link);
+      cells = λ p. getD-set-other row i (5 + 3 * k + p) v 0 (λ e. ⊎-elim (λ q. omega arith) (λ q. omega arith) link);
+      len = length-set row i v;
+      beyond = drop-set-lt (9 * k + 5) row i v (⊎-elim (λ q. omega arith) (λ q. omega arith) link);
     }

@@ -8,3 +8,5 @@ pub mod Served
 pub mod Admitted
 pub mod Misses
 pub mod Outcomes
+pub mod Emptied
+pub mod Copies

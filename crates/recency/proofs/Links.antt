@@ -4,9 +4,10 @@ use mathlib.Core.Logic.{_⊎_, inl, inr, ⊎-elim, _≢_}
 use mathlib.Core.Bool.{Bool, true, false, cond, not, _&&_, _||_}
 use mathlib.Core.List.{List, [], _∷_, _++_, append-nil}
 use native.Mathlib.Omega.{arith}
-use Prim.Native.Nat.{ℕ, suc}
+use native.Mathlib.Numerals.{add-one}
+use Prim.Native.Nat.{ℕ, zero, suc, _+_, _<_}
 use lib.Dec.{eqb}
-use lib.ListN.{length}
+use lib.ListN.{length, getD}
 use Rattle.std.proofs.shelf.Ways.{tells}
 use Rattle.paging.specs.Lists.{has, distinct}
 use Rattle.paging.proofs.Appends.{distinct-front, distinct-back, distinct-parts, distinct-parts-back, distinct-cons, has-tail, has-first, has-later, has-apart}
@@ -56,6 +57,20 @@ module _ (f g : ℕ → ℕ) where
   unfolding Chain
   ends a b c = c
 
+  -- links by place: each slot leads to the next one, and the last to 0
+  pub chain-at : (xs : List ℕ) (a i : ℕ) → Chain f g a xs 0 → i < length xs → f (getD xs i 0) ≡ getD xs (i + 1) 0
+  unfolding Chain
+  chain-at [] a i c lt = absurd (omega arith)
+  chain-at (x ∷ []) a zero c lt = c .2 .0
+  chain-at (x ∷ []) a (suc i) c lt = absurd (omega arith)
+  chain-at (x ∷ y ∷ xs) a zero c lt = c .2 .0
+  chain-at (x ∷ y ∷ xs) a (suc i) c lt = let r = chain-at (y ∷ xs) x i (c .2) (omega arith) in rw (add-one) (rw (add-one) at r)
+
+  pub chain-first : (xs : List ℕ) (a : ℕ) → Chain f g a xs 0 → f a ≡ getD xs 0 0
+  unfolding Chain
+  chain-first [] a c = c .0
+  chain-first (x ∷ xs) a c = c .0
+
   -- a walk along a chain meets its slots in order
   pub walk-chain : (xs : List ℕ) (a b : ℕ) → Chain f g a xs b → walk (length xs) f (f a) ≡ xs
   unfolding Chain walk
@@ -69,9 +84,11 @@ module _ (f g f′ g′ : ℕ → ℕ) where
       Chain f g a xs b → Chain f′ g′ a xs b
   unfolding Chain has
   chain-same [] a b fs gs e c = (fs a (grind (arith, tells)) ∙ c .0, e ∙ c .1)
-  chain-same (x ∷ xs) a b fs gs e c =
-      (fs a (grind (arith, tells)) ∙ c .0, gs x (grind (arith, tells)) ∙ c .1,
-      chain-same xs x b (λ i h. fs i (grind (arith, tells))) (λ i h. gs i (grind (arith, tells))) e (c .2))
+  chain-same (x ∷ xs) a b fs gs e c = (
+    fs a (grind (arith, tells)) ∙ c .0,
+    gs x (grind (arith, tells)) ∙ c .1,
+    chain-same xs x b (λ i h. fs i (grind (arith, tells))) (λ i h. gs i (grind (arith, tells))) e (c .2),
+  )
 
   -- the end of a chain is moved from s to v
   relink :
@@ -104,9 +121,9 @@ module _ (f g f′ g′ : ℕ → ℕ) where
       let front = distinct-front (0 ∷ xs) (s ∷ y ∷ ys) d in
       let others = λ (i : ℕ) (h : has (0 ∷ xs) i ≡ true). has-tail s (y ∷ ys) i (distinct-parts (0 ∷ xs) (s ∷ y ∷ ys) i d h) .1 in
       let later : Chain f′ g′ y ys 0 =
-          chain-same ys y 0 (λ i h. fo i (has-apart (y ∷ ys) i (g s) h (others (g s) back)))
-          (λ i h. go i (λ e. has-apart ys i y h (distinct-cons y ys rest .0) (e ∙ first .0)))
-          (go 0 (λ e. has-tail y ys 0 (others 0 (has-first 0 xs)) .0 (sym (e ∙ first .0)))) (first .2) in
+      chain-same ys y 0 (λ i h. fo i (has-apart (y ∷ ys) i (g s) h (others (g s) back)))
+      (λ i h. go i (λ e. has-apart ys i y h (distinct-cons y ys rest .0) (e ∙ first .0)))
+      (go 0 (λ e. has-tail y ys 0 (others 0 (has-first 0 xs)) .0 (sym (e ∙ first .0)))) (first .2) in
       let absent : has xs (f s) ≡ false = ap (has xs) (first .0) ∙ has-tail 0 xs y (distinct-parts-back (0 ∷ xs) (s ∷ y ∷ ys) y d (has-later s (y ∷ ys) y (has-first y ys))) .1 in
       let r = relink xs 0 s (f s) fu fo gv go front absent (parts .0) in
       chain-join f′ g′ xs 0 y ys 0 (rw (first .0) at r) later
@@ -120,9 +137,14 @@ module _ (f g f′ g′ : ℕ → ℕ) where
   chain-push (x ∷ xs) s f0 fs fo gs gf go ns n d c =
       let outer = distinct-cons 0 (x ∷ xs) d in
       let inner = distinct-cons x xs (outer .1) in
-      let no-s = has-tail x xs s n .1 in
-      (f0, gs,
-      (fs ∙ c .0, ap g′ (sym (c .0)) ∙ gf,
-      chain-same xs x 0 (λ i h. fo i (has-apart (x ∷ xs) i 0 h (outer .0)) (has-apart (x ∷ xs) i s h n))
-      (λ i h. go i (has-apart xs i s h no-s) (λ e. has-apart xs i x h (inner .0) (e ∙ c .0)))
-      (go 0 (λ e. ns (sym e)) (λ e. has-tail x xs 0 (outer .0) .0 (sym (e ∙ c .0)))) (c .2)))
+      let no-s = has-tail x xs s n .1 in (
+        f0,
+        gs,
+        (
+          fs ∙ c .0,
+          ap g′ (sym (c .0)) ∙ gf,
+          chain-same xs x 0 (λ i h. fo i (has-apart (x ∷ xs) i 0 h (outer .0)) (has-apart (x ∷ xs) i s h n))
+              (λ i h. go i (has-apart xs i s h no-s) (λ e. has-apart xs i x h (inner .0) (e ∙ c .0)))
+              (go 0 (λ e. ns (sym e)) (λ e. has-tail x xs 0 (outer .0) .0 (sym (e ∙ c .0)))) (c .2),
+        ),
+      )

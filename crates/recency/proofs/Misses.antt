@@ -39,11 +39,11 @@ module _ (k : ℕ) (row : List ℕ) (sound : Sound k row) (room : count row < k)
       let c = ready-count in
       let u = else-same 1 (omega arith) in
       record {
-          low = sound .sized .low;
-          high = sound .sized .high;
-          long = omega arith;
-          few = omega arith;
-          spent = omega (arith, sound .sized .spent)
+        low = sound .sized .low;
+        high = sound .sized .high;
+        long = omega arith;
+        few = omega arith;
+        spent = omega (arith, sound .sized .spent);
       }
 
   ready-linked : Linked (count ready) ready (sound .order)

@@ -98,12 +98,12 @@ module _ (k n : ℕ) (row : List ℕ) (long : 9 * k + 5 ≤ length row) (few : n
       let after : next row s ≤ k = omega arith in
       let before : prev row s ≤ k = omega arith in
       record {
-          chain = chain-unlink (next row) (prev row) (next (unlinked row s)) (prev (unlinked row s)) xs s ys
-              (next-unlinked k row long s inside after before) (next-unlinked-else k row long s inside after before)
-              (prev-unlinked k row long s inside after before) (prev-unlinked-else k row long s inside after before)
-              (linked .once) (linked .chain);
-          once = distinct-cut s ys (0 ∷ xs) (linked .once) .0;
-          within = λ t h. linked .within t (has-cut xs s ys t ∙ has-later s (xs ++ ys) t h)
+        chain = chain-unlink (next row) (prev row) (next (unlinked row s)) (prev (unlinked row s)) xs s ys
+            (next-unlinked k row long s inside after before) (next-unlinked-else k row long s inside after before)
+            (prev-unlinked k row long s inside after before) (prev-unlinked-else k row long s inside after before)
+            (linked .once) (linked .chain);
+        once = distinct-cut s ys (0 ∷ xs) (linked .once) .0;
+        within = λ t h. linked .within t (has-cut xs s ys t ∙ has-later s (xs ++ ys) t h);
       }
 
   -- slot s, which is not in the ring, is put in front
@@ -115,13 +115,13 @@ module _ (k n : ℕ) (row : List ℕ) (long : 9 * k + 5 ≤ length row) (few : n
       let tail = has-tail 0 xs s absent in
       let some : s ≢ 0 = λ e. tail .0 (sym e) in
       let new : next row 0 ≢ s =
-          has-apart (0 ∷ xs) (next row 0) s (chain-next (next row) (prev row) xs 0 0 0 (linked .chain) (has-first 0 xs)) absent in
+      has-apart (0 ∷ xs) (next row 0) s (chain-next (next row) (prev row) xs 0 0 0 (linked .chain) (has-first 0 xs)) absent in
       record {
-          chain = chain-push (next row) (prev row) (next (pushed row s)) (prev (pushed row s)) xs s
-              (next-pushed-0 k row long s inside head some new) (next-pushed k row long s inside head some new)
-              (next-pushed-else k row long s inside head some new) (prev-pushed k row long s inside head some new)
-              (prev-pushed-head k row long s inside head some new) (prev-pushed-else k row long s inside head some new)
-              some (tail .1) (linked .once) (linked .chain);
-          once = pushed-once 0 xs s absent (linked .once);
-          within = pushed-within n xs s le (linked .within)
+        chain = chain-push (next row) (prev row) (next (pushed row s)) (prev (pushed row s)) xs s
+            (next-pushed-0 k row long s inside head some new) (next-pushed k row long s inside head some new)
+            (next-pushed-else k row long s inside head some new) (prev-pushed k row long s inside head some new)
+            (prev-pushed-head k row long s inside head some new) (prev-pushed-else k row long s inside head some new)
+            some (tail .1) (linked .once) (linked .chain);
+        once = pushed-once 0 xs s absent (linked .once);
+        within = pushed-within n xs s le (linked .within);
       }

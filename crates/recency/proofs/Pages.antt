@@ -3,16 +3,18 @@ use mathlib.Core.Path.{_≡_, refl, ap, sym, _∙_}
 use mathlib.Core.Bool.{Bool, true, false, cond, not, _&&_, _||_}
 use mathlib.Core.List.{List, [], _∷_, _++_, map}
 use native.Mathlib.Omega.{arith}
-use Prim.Native.Nat.{ℕ, zero, suc, _≤_}
+use mathlib.Core.Logic.{⊎-elim}
+use Prim.Native.Nat.{ℕ, zero, suc, _+_, _≤_, _<_}
 use lib.Dec.{eqb}
-use lib.ListN.{length}
+use lib.ListN.{length, getD}
 use Rattle.std.proofs.shelf.Ways.{tells}
-use Rattle.std.proofs.shelf.Lists.{length-map}
+use Rattle.std.proofs.shelf.Lists.{length-map, getD-past, getD-map}
+use Rattle.std.proofs.shelf.Tests.{cases-lt}
 use Rattle.paging.specs.Lists.{has, distinct}
-use Rattle.paging.proofs.Appends.{has-apart, distinct-cons}
+use Rattle.paging.proofs.Appends.{has-at, has-apart, distinct-cons}
 use Rattle.recency.specs.Row.{count, next, prev, held, walk, pages}
 use Rattle.recency.specs.Sound.{Chain, Linked, Sound}
-use Rattle.recency.proofs.Links.{walk-chain}
+use Rattle.recency.proofs.Links.{walk-chain, chain-at, chain-first}
 
 pub pages-linked : (n : ℕ) (row order : List ℕ) → Linked n row order → length order ≡ count row → pages row ≡ map (held row) order
 unfolding pages
@@ -73,3 +75,20 @@ module _ (k : ℕ) (row : List ℕ) (sound : Sound k row) (page : ℕ) where
       let f = found (omega arith) in
       let there = page-found (suc r) (omega arith) (f .0) (f .1) in
       grind (arith, tells)
+
+-- the ring by place: the slots in order, and the page of each
+module _ (k : ℕ) (row : List ℕ) (sound : Sound k row) where
+  pub order-first : next row 0 ≡ getD (sound .order) 0 0
+  order-first = chain-first (next row) (prev row) (sound .order) 0 (sound .linked .chain)
+
+  pub order-next : (i : ℕ) → i < count row → next row (getD (sound .order) i 0) ≡ getD (sound .order) (i + 1) 0
+  order-next i lt = let m = sound .many in chain-at (next row) (prev row) (sound .order) 0 i (sound .linked .chain) (omega arith)
+
+  pub order-within : (i : ℕ) → getD (sound .order) i 0 ≤ k
+  order-within i =
+      let few = sound .sized .few in
+      ⊎-elim (λ lt. omega (arith, sound .linked .within (getD (sound .order) i 0) (has-at (sound .order) i lt)))
+      (λ le. omega (arith, getD-past (sound .order) i 0 le)) (cases-lt i (length (sound .order)))
+
+  pub page-at : (i : ℕ) → i < count row → held row (getD (sound .order) i 0) ≡ getD (pages row) i 0
+  page-at i lt = let m = sound .many in rw (pages-sound k row sound) (sym (getD-map (held row) (sound .order) i 0 0 (omega arith)))

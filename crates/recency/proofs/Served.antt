@@ -34,17 +34,17 @@ pub served :
     drop (9 * k + 5) row′ ≡ drop (9 * k + 5) row → Served k row page row′
 served k row page row′ order sound sized linked many all table holds beyond =
     record {
-        sound = record {
-            sized = sized;
-            order = order;
-            linked = linked;
-            many = many;
-            all = all;
-            once = rw holds (lru-distinct k page (pages row) (pages-once k row sound));
-            table = table
-        };
-        after = pages-linked (count row′) row′ order linked many ∙ holds;
-        beyond = beyond
+      sound = record {
+        sized = sized;
+        order = order;
+        linked = linked;
+        many = many;
+        all = all;
+        once = rw holds (lru-distinct k page (pages row) (pages-once k row sound));
+        table = table;
+      };
+      after = pages-linked (count row′) row′ order linked many ∙ holds;
+      beyond = beyond;
     }
 
 -- the links alone have changed
@@ -93,13 +93,13 @@ taken k row xs s ys sized linked =
     let out = linked-unlinked k n row (sized .long) few xs s ys linked in
     let head-n = linked-next n (unlinked row s) (xs ++ ys) out 0 (has-first 0 (xs ++ ys)) in
     record {
-        inside = inside;
-        after = after;
-        before = before;
-        links = unlinked-relinked k row (sized .long) s inside after before;
-        linked = out;
-        absent = distinct-cut s ys (0 ∷ xs) (linked .once) .1;
-        head = omega arith
+      inside = inside;
+      after = after;
+      before = before;
+      links = unlinked-relinked k row (sized .long) s inside after before;
+      linked = out;
+      absent = distinct-cut s ys (0 ∷ xs) (linked .once) .1;
+      head = omega arith;
     }
 
 -- slot s, which is not in the ring, is put in front
@@ -113,8 +113,8 @@ put k n row s rest long few linked absent le =
     let h = linked-next n row rest linked 0 (has-first 0 rest) in
     let head : next row 0 ≤ k = omega arith in
     record {
-        links = pushed-relinked k row long s inside head;
-        linked = linked-pushed k n row long few rest s linked absent le
+      links = pushed-relinked k row long s inside head;
+      linked = linked-pushed k n row long few rest s linked absent le;
     }
 
 -- a hit: the slot of the page is taken out and put in front
@@ -144,7 +144,7 @@ module _ (k : ℕ) (row : List ℕ) (sound : Sound k row) (s : ℕ) (low : 1 ≤
       let front = map (held row) (cut .front) in
       let back = map (held row) (cut .back) in
       let all : pages row ≡ front ++ held row s ∷ back =
-          pages-sound k row sound ∙ ap (map (held row)) (cut .joins) ∙ map-append (held row) (cut .front) (s ∷ cut .back) in
+      pages-sound k row sound ∙ ap (map (held row)) (cut .joins) ∙ map-append (held row) (cut .front) (s ∷ cut .back) in
       let once : distinct (front ++ held row s ∷ back) ≡ true = ap distinct (sym all) ∙ pages-once k row sound in
       let many = length-pages k row sound in
       let few = sound .sized .few in

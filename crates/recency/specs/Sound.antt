@@ -12,7 +12,7 @@ use mathlib.Core.List.{List, [], _∷_, map}
 use Prim.Native.Nat.{ℕ, _+_, _*_, _≤_, _<_}
 use lib.ListN.{length, getD, set, drop}
 use Rattle.paging.specs.Lists.{has, distinct}
-use Rattle.recency.specs.Row.{count, used, next, prev, held, cell}
+use Rattle.recency.specs.Row.{count, used, next, prev, held, cell, pages}
 use Rattle.recency.specs.Hash.{home}
 
 unfoldable pub Chain : (ℕ → ℕ) → (ℕ → ℕ) → ℕ → List ℕ → ℕ → Type 0
@@ -69,3 +69,9 @@ pub record Sound (k : ℕ) (row : List ℕ) : Type 0 where
   pub all : (s : ℕ) → 1 ≤ s → s ≤ count row → has order s ≡ true
   pub once : distinct (map (held row) order) ≡ true
   pub table : Finds k row
+
+-- what `clear` leaves: a row for k pages that holds none, and everything beyond it as it was
+pub record Emptied (k : ℕ) (row row′ : List ℕ) : Type 0 where
+  pub sound : Sound k row′
+  pub none : pages row′ ≡ []
+  pub beyond : drop (9 * k + 5) row′ ≡ drop (9 * k + 5) row

@@ -76,8 +76,9 @@ fn enter(row: &mut [u64], k: usize, slot: usize)
 }
 
 // Empties the table.
-fn wipe(row: &mut [u64], k: usize)
-    requires sized { ⌜ Sized k (now row) ⌝ }
+pub(crate) fn wipe(row: &mut [u64], k: usize)
+    requires high { ⌜ k ≤ 4096 ⌝ }
+    requires long { ⌜ 9 * k + 5 ≤ length (now row) ⌝ }
     ensures used { λ _. ⌜ used (now (row .exit)) ≡ 0 ⌝ }
     ensures empty { λ _. ⌜ ((p : ℕ) → p < 6 * k → cell k (now (row .exit)) p ≡ 0) ⌝ }
     ensures kept { λ _. ⌜ Kept k (now (row .entry)) (now (row .exit)) ⌝ }

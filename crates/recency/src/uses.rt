@@ -8,12 +8,14 @@ ghost use Rattle.std.specs.Orderings.{When};
 ghost use Rattle.paging.specs.Lists.{has, without, last-of};
 ghost use Rattle.paging.specs.Lru.{lru};
 ghost use Rattle.recency.specs.Row.{pages, count, held, next, prev, unlinked, pushed, admitted};
-ghost use Rattle.recency.specs.Sound.{Sound, Sized, Finds, Kept, Table};
+ghost use Rattle.recency.specs.Sound.{Sound, Sized, Finds, Kept, Table, Emptied};
 ghost use Rattle.recency.specs.Outcome.{outcome, fits};
+use crate::layout::row_len;
 use crate::ring::push;
 use crate::ring::unlink;
 use crate::table::note;
 use crate::table::probe;
+use crate::table::wipe;
 
 // What a request found.
 #[derive(Clone, Copy)]
@@ -24,6 +26,34 @@ pub enum Outcome {
     Filled,
     // It was not, and this page, used longest ago, made room for it.
     Evicted(u64),
+}
+
+// Makes a row for k pages that holds none. Where k is no capacity, or the row is too short for it, nothing is changed.
+pub fn clear(row: &mut [u64], k: usize) -> bool
+    ensures value { λ r. ⌜ r ≡ fits k (length (now (row .entry))) ⌝ }
+    ensures after { λ r. ⌜ When r (Emptied k (now (row .entry)) (now (row .exit))) (now (row .exit) ≡ now (row .entry)) ⌝ }
+{
+    let Some(len) = row_len(k) else {
+        return false;
+    };
+    if row.len() < len {
+        return false;
+    }
+    reset(row, k);
+    true
+}
+
+// A ring of slot 0 alone, and an empty table.
+fn reset(row: &mut [u64], k: usize)
+    requires low { ⌜ 1 ≤ k ⌝ }
+    requires high { ⌜ k ≤ 4096 ⌝ }
+    requires long { ⌜ 9 * k + 5 ≤ length (now row) ⌝ }
+    ensures after { λ _. ⌜ Emptied k (now (row .entry)) (now (row .exit)) ⌝ }
+{
+    row[0] = 0;
+    row[2] = 0;
+    row[3] = 0;
+    wipe(row, k);
 }
 
 // Whether a page is there. Nothing moves.
@@ -113,4 +143,19 @@ fn admit(row: &mut [u64], k: usize, slot: usize, page: u64)
     row[4 + 3 * slot] = page;
     push(row, slot);
     note(row, k, slot);
+}
+
+// Writes the pages, the one used last first, as far as `out` goes, and says how many there are.
+pub fn list(row: &[u64], k: usize, out: &mut [u64]) -> usize
+    requires sound { ⌜ Sound k (now row) ⌝ }
+    ensures value { λ r. ⌜ r ≡ length (pages (now (row .entry))) ⌝ }
+    ensures after { λ _. ⌜ now (out .exit) ≡ take (length (now (out .entry))) (pages (now (row .entry))) ++ drop (length (pages (now (row .entry)))) (now (out .entry)) ⌝ }
+{
+    let count = row[0] as usize;
+    let mut slot = row[2] as usize;
+    for i in 0..count.min(out.len()) {
+        out[i] = row[4 + 3 * slot];
+        slot = row[2 + 3 * slot] as usize;
+    }
+    count
 }

@@ -15,8 +15,8 @@ note-requires c κs =
     let e = c .push .ensures .after in
     let n = admitted-count k row s (c .args .page) (c .pre .sized) inside (c .pre .head) in
     record {
-        sized = rw e (admitted-sized k row s (c .args .page) (c .pre .sized) inside (c .pre .head));
-        low = c .pre .low;
-        high = rw e (rw n (c .pre .high));
-        table = rw e (admitted-table k row s (c .args .page) (c .pre .sized) inside (c .pre .head) (c .pre .table))
+      sized = rw e (admitted-sized k row s (c .args .page) (c .pre .sized) inside (c .pre .head));
+      low = c .pre .low;
+      high = rw e (rw n (c .pre .high));
+      table = rw e (admitted-table k row s (c .args .page) (c .pre .sized) inside (c .pre .head) (c .pre .table));
     }

@@ -15,11 +15,11 @@ admit-requires c κs =
     let n = freed-count k row (c .pre .sound) (c .pre .full) in
     let high = last-high k row (c .pre .sound) (c .pre .full) in
     record {
-        sized = rw e (freed-sized k row (c .pre .sound) (c .pre .full));
-        low = last-low k row (c .pre .sound) (c .pre .full);
-        high = rw e (omega arith);
-        head = rw e (oldest-taken k row (c .pre .sound) (c .pre .full) .head);
-        table = rw e (freed-table k row (c .pre .sound) (c .pre .full))
+      sized = rw e (freed-sized k row (c .pre .sound) (c .pre .full));
+      low = last-low k row (c .pre .sound) (c .pre .full);
+      high = rw e (omega arith);
+      head = rw e (oldest-taken k row (c .pre .sound) (c .pre .full) .head);
+      table = rw e (freed-table k row (c .pre .sound) (c .pre .full));
     }
 
 pub returns : need.returns

@@ -8,11 +8,11 @@ admit-requires c κs =
     let row = c .args .row .now in
     let n = ready-count k row (c .pre .sound) (c .pre .room) in
     record {
-        sized = ready-sized k row (c .pre .sound) (c .pre .room);
-        low = omega arith;
-        high = omega arith;
-        head = ready-head k row (c .pre .sound) (c .pre .room);
-        table = ready-table k row (c .pre .sound) (c .pre .room)
+      sized = ready-sized k row (c .pre .sound) (c .pre .room);
+      low = omega arith;
+      high = omega arith;
+      head = ready-head k row (c .pre .sound) (c .pre .room);
+      table = ready-table k row (c .pre .sound) (c .pre .room);
     }
 
 pub returns : need.returns

@@ -33,9 +33,9 @@ returns-then-slot-ne0 c =
 pub fill-requires : need.fill-requires
 fill-requires c κs =
     record {
-        sound = c .pre .sound;
-        room = omega arith;
-        absent = page-missed _ _ (c .pre .sound) (c .args .page) (c .probe-slot .ensures .missed (omega arith))
+      sound = c .pre .sound;
+      room = omega arith;
+      absent = page-missed _ _ (c .pre .sound) (c .args .page) (c .probe-slot .ensures .missed (omega arith));
     }
 
 pub returns-then-row-k : need.returns-then-row-k
@@ -52,10 +52,10 @@ evict-requires c κs =
     let high = last-high (c .args .k) (c .args .row .now) (c .pre .sound) full in
     let long = c .pre .sound .sized .long in
     record {
-        sound = c .pre .sound;
-        full = full;
-        last-within = omega arith;
-        absent = page-missed _ _ (c .pre .sound) (c .args .page) (c .probe-slot .ensures .missed (omega arith))
+      sound = c .pre .sound;
+      full = full;
+      last-within = omega arith;
+      absent = page-missed _ _ (c .pre .sound) (c .args .page) (c .probe-slot .ensures .missed (omega arith));
     }
 
 pub returns : need.returns
@@ -64,8 +64,8 @@ returns c =
     let many = length-pages _ _ (c .pre .sound) in
     let e = c .evict .ensures in
     record {
-        value = ap Evicted (e .value) ∙ outcome-evicted _ _ (c .args .page) absent (omega arith);
-        after = e .after;
-        sound = e .sound;
-        beyond = e .beyond
+      value = ap Evicted (e .value) ∙ outcome-evicted _ _ (c .args .page) absent (omega arith);
+      after = e .after;
+      sound = e .sound;
+      beyond = e .beyond;
     }
