@@ -56,7 +56,7 @@ lines-append k cache (x ∷ xs) ys =
 
 module _ (k : ℕ) (cache first second : List ℕ) where
   pub lines-in-pieces : lines-for k cache (requests-in (first ++ second)) ≡ lines-for k cache (requests-in first) ++ lines-for k (cache-at-end k cache (requests-in first)) (requests-in (left-over first ++ second))
-  lines-in-pieces = rw requests-in-pieces (lines-append k cache (requests-in first) (requests-in (left-over first ++ second)))
+  lines-in-pieces = rw (requests-in-pieces first second) (lines-append k cache (requests-in first) (requests-in (left-over first ++ second)))
 
   pub cache-in-pieces : cache-at-end k cache (requests-in (first ++ second)) ≡ cache-at-end k (cache-at-end k cache (requests-in first)) (requests-in (left-over first ++ second))
-  cache-in-pieces = rw requests-in-pieces (cache-append k cache (requests-in first) (requests-in (left-over first ++ second)))
+  cache-in-pieces = rw (requests-in-pieces first second) (cache-append k cache (requests-in first) (requests-in (left-over first ++ second)))

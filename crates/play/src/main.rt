@@ -1,6 +1,4 @@
 // Plays a trace: an LRU cache serves each request, and a line says what became of it.
-ghost use mathlib.Core.Path.{_≡_};
-
 mod faults;
 mod pieces;
 mod requests;
@@ -10,6 +8,7 @@ use faults::tell;
 use pieces::PIECE;
 use pieces::fill;
 use pieces::play_all;
+use requests::prepare;
 use std::env;
 use std::fs;
 use std::io;
@@ -85,7 +84,7 @@ fn play<R: Read>(rt: &LibcRuntime, input: &mut R) -> Result<(), Fault> {
     };
     let mut row = [0u64; ROW_LEN];
     let k = header.capacity;
-    recency::clear(&mut row, k);
+    prepare(&mut row, k);
     let mut buf = [0u8; PIECE];
     let mut text = String::new(rt.alloc());
     play_all(input, &mut rt.stdout(), &mut row, k, &mut buf, &mut text)

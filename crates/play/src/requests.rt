@@ -1,19 +1,28 @@
 // Requests served on a recency row, each with its line.
 ghost use mathlib.Core.Path.{_≡_};
 ghost use mathlib.Core.Bool.{true};
-ghost use mathlib.Core.List.{_++_};
+ghost use mathlib.Core.List.{[], _++_};
 ghost use Prim.Native.Nat.{_≤_};
 ghost use lib.ListN.{length};
 ghost use Rattle.std.specs.Of.String.{string-bytes};
 ghost use Rattle.std.specs.Results.{isOk};
 ghost use Rattle.recency.specs.Row.{pages};
 ghost use Rattle.trace.specs.Requests.{requests-in};
-ghost use Rattle.play.specs.Played.{Ready, line-for, cache-after, lines-for, cache-at-end};
+ghost use Rattle.play.specs.Played.{is-capacity, Ready, line-for, cache-after, lines-for, cache-at-end};
 use recency::MAX_CAPACITY;
 use recency::Outcome;
 use std::fmt;
 use trace::Line;
 use trace::LineDisplay;
+
+// Empties a row for k pages. Where k is no capacity the row is never asked.
+pub(crate) fn prepare(row: &mut [u64], k: usize)
+    requires { ⌜ 36869 ≤ length (now row) ⌝ }
+    ensures ready { λ _. ⌜ Ready k (now (row .exit)) ⌝ }
+    ensures empty { λ _. ⌜ (is-capacity k ≡ true → pages (now (row .exit)) ≡ []) ⌝ }
+{
+    recency::clear(row, k);
+}
 
 // Serves one request.
 fn serve(row: &mut [u64], k: usize, page: u64) -> Line
