@@ -1,11 +1,14 @@
 pub mod Appends
 pub mod Competitive
 pub mod Depth
+pub mod Distance
 pub mod Fronts
 pub mod Lists
+pub mod Places
 pub mod Recency
 pub mod Requests
 pub mod Room
 pub mod Schedules
 pub mod Stretches
+pub mod Tallies
 pub mod Weights

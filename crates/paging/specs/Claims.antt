@@ -1,11 +1,12 @@
 -- What is claimed about paging: each is a statement, and src/ has a function for each whose contract says that it holds.
 -- Assumes nothing.
-use mathlib.Core.Bool.{true}
+use mathlib.Core.Bool.{true, false}
 use mathlib.Core.List.{List, [], _∷_, _++_}
 use mathlib.Core.Path.{_≡_}
 use Prim.Native.Nat.{ℕ, suc, _+_, _*_, _-_, _≤_, _<_}
 use lib.ListN.{length, take}
-use Rattle.paging.specs.Lists.{has, distinct}
+use Rattle.paging.specs.Distance.{found, stack-hits}
+use Rattle.paging.specs.Lists.{has, distinct, place}
 use Rattle.paging.specs.Lru.{lru-fetches, lru-after}
 use Rattle.paging.specs.Schedules.{feasible, schedule-fetches}
 use Rattle.paging.specs.Stretches.{last-requested, different, missing}
@@ -63,3 +64,13 @@ Compulsory = (k : ℕ) (trace : List ℕ) → different trace ≤ lru-fetches k 
 abbrev pub Retained : Type 0
 Retained =
     (k page : ℕ) (before between : List ℕ) → different between < k → has (lru-after k [] (before ++ page ∷ between)) page ≡ true
+
+-- One stack of the pages requested last serves every capacity: a page is in the cache of c places exactly where it stands among the first c of
+-- the stack; its place there is the number of different pages requested since its last request; and a trace's requests are fetches and hits.
+pub record Stack-distance : Type 0 where
+  pub hit : (c : ℕ) (before : List ℕ) (page : ℕ) → has (lru-after c [] before) page ≡ found c page (last-requested before [])
+  pub since :
+      (before : List ℕ) (page : ℕ) (between : List ℕ) → has between page ≡ false →
+      (has (last-requested (before ++ page ∷ between) []) page ≡ true)
+      × (place page (last-requested (before ++ page ∷ between) []) ≡ different between)
+  pub fetches : (c : ℕ) (trace : List ℕ) → lru-fetches c [] trace + stack-hits c [] trace ≡ length trace

@@ -1,4 +1,5 @@
 pub mod Claims
+pub mod Distance
 pub mod Lists
 pub mod Lru
 pub mod Schedules

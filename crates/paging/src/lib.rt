@@ -1,6 +1,6 @@
 // What is claimed about paging, and its proofs. No code: each function below says by its contract that a theorem of specs/ holds, and
 // its file in proofs/ cites the lemma that shows it.
-ghost use Rattle.paging.specs.Claims.{Competitive, Competitive-from, Inclusion, Recency, Split, Few-pages, Cold-fetches, Compulsory, Retained};
+ghost use Rattle.paging.specs.Claims.{Competitive, Competitive-from, Inclusion, Recency, Split, Few-pages, Cold-fetches, Compulsory, Retained, Stack-distance};
 ghost use Rattle.paging.specs.Worked.{Worked};
 
 // LRU with k places fetches at most k / (k - h + 1) times what any schedule with h places fetches, both from empty caches.
@@ -62,6 +62,13 @@ pub fn compulsory_stands() -> u8
 // LRU keeps a page while fewer than k different pages are requested after it.
 pub fn retained_stands() -> u8
     ensures { λ _. ⌜ Retained ⌝ }
+{
+    0
+}
+
+// One stack of the pages requested last tells for every capacity which requests LRU fetches.
+pub fn stack_distance_stands() -> u8
+    ensures { λ _. ⌜ Stack-distance ⌝ }
 {
     0
 }

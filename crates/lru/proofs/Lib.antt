@@ -1,0 +1,4 @@
+pub mod Scans
+pub mod Faults
+pub mod Hits
+pub mod Cleared
