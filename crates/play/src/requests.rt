@@ -2,7 +2,7 @@
 ghost use mathlib.Core.Path.{_≡_};
 ghost use mathlib.Core.Bool.{true};
 ghost use mathlib.Core.List.{[], _++_};
-ghost use Prim.Native.Nat.{_≤_};
+ghost use Prim.Native.Nat.{_+_, _*_, _≤_};
 ghost use lib.ListN.{length};
 ghost use Rattle.std.specs.Of.String.{string-bytes};
 ghost use Rattle.std.specs.Results.{isOk};
@@ -17,7 +17,7 @@ use trace::LineDisplay;
 
 // Empties a row for k pages. Where k is no capacity the row is never asked.
 pub(crate) fn prepare(row: &mut [u64], k: usize)
-    requires { ⌜ 36869 ≤ length (now row) ⌝ }
+    requires { ⌜ 9 * 4096 + 5 ≤ length (now row) ⌝ }
     ensures ready { λ _. ⌜ Ready k (now (row .exit)) ⌝ }
     ensures empty { λ _. ⌜ (is-capacity k ≡ true → pages (now (row .exit)) ≡ []) ⌝ }
 {
