@@ -3,3 +3,5 @@ pub mod Faults
 pub mod Hits
 pub mod Cleared
 pub mod Written
+pub mod Stored
+pub mod Runs
