@@ -5,3 +5,4 @@ pub mod Cleared
 pub mod Written
 pub mod Stored
 pub mod Runs
+pub mod Kept

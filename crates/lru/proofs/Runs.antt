@@ -34,7 +34,7 @@ module _ (k : ℕ) (trace start : List ℕ) (told : List Reply) (i n : ℕ) (cac
       let page = getD trace i 0 in
       let rest = drop (i + 1) trace in
       let f : lru-fetches k cache (drop i trace) ≡ cond (has cache page) (lru-fetches k (lru k cache page) rest) (suc (lru-fetches k (lru k cache page) rest)) =
-          at-drop-more (lru-fetches k cache) trace i 0 lt in
+      at-drop-more (lru-fetches k cache) trace i 0 lt in
       let a : lru-after k cache (drop i trace) ≡ lru-after k (lru k cache page) rest = at-drop-more (lru-after k cache) trace i 0 lt in
       let r : replies k cache (drop i trace) ≡ reply k cache page ∷ replies k (lru k cache page) rest = at-drop-more (replies k cache) trace i 0 lt in
       let cost = outcome-fetches k cache page in
@@ -42,10 +42,10 @@ module _ (k : ℕ) (trace start : List ℕ) (told : List Reply) (i n : ℕ) (cac
       let few = ran .few in
       let sum = ran .fetches in
       record {
-          few = grind (arith, tells);
-          fetches = grind (arith, tells);
-          after = sym a ∙ ran .after;
-          replied = rw words (ap (λ (xs : List Reply). stored i xs told′) (sym r) ∙ ran .replied)
+        few = grind (arith, tells);
+        fetches = grind (arith, tells);
+        after = sym a ∙ ran .after;
+        replied = rw words (ap (λ (xs : List Reply). stored i xs told′) (sym r) ∙ ran .replied);
       }
 
   pub ran-all : length trace ≤ i → (n ≡ lru-fetches k start trace) × (cache ≡ lru-after k start trace)

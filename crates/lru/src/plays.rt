@@ -5,6 +5,7 @@ ghost use Prim.Native.Nat.{_+_, _*_, _≤_};
 ghost use lib.ListN.{length, take, drop, set};
 ghost use Rattle.std.specs.Options.{Cases as BySome};
 ghost use Rattle.std.specs.Results.{Cases};
+ghost use Rattle.std.specs.Vec.{made, refused};
 ghost use Rattle.std.specs.declared.option.Option.the-variants.{Some, None};
 ghost use Rattle.paging.specs.Lru.{lru-fetches, lru-after};
 ghost use Rattle.recency.specs.Row as recent;
@@ -44,4 +45,26 @@ fn run(index: &mut [u64], k: usize, trace: &[u64], replies: &mut [Reply]) -> u64
         fetches += cost(outcome);
     }
     fetches
+}
+
+// Plays a whole trace: opened once, closed once. Answers how many of its requests were fetched, and writes the replies as far as there are
+// places for them. Never much more is fetched than by any schedule, however much that one knows of the trace.
+pub fn play(
+    cache: &mut [u64],
+    index: &mut [u64],
+    trace: &[u64],
+    replies: &mut [Reply],
+) -> Result<u64, Refusal>
+    ensures played { λ r. ⌜ made r (λ n. Played (now (cache .entry)) (now (index .entry)) (now (trace .entry)) (now (replies .entry)) n (now (cache .exit)) (now (index .exit)) (now (replies .exit))) ⌝ }
+    ensures refused { λ r. ⌜ Cases r (λ _. refusal (now (cache .entry)) (length (now (index .entry))) (now (trace .entry)) ≡ None) (λ e. refusal (now (cache .entry)) (length (now (index .entry))) (now (trace .entry)) ≡ Some e) ⌝ }
+    ensures same { λ r. ⌜ refused r (λ _. (now (cache .exit) ≡ now (cache .entry)) × (now (index .exit) ≡ now (index .entry)) × (now (replies .exit) ≡ now (replies .entry))) ⌝ }
+{
+    let (k, n) = check(cache, index.len())?;
+    if let Some(refusal) = first_wide(trace) {
+        return Err(refusal);
+    }
+    open(cache, index, k, n);
+    let fetches = run(index, k, trace, replies);
+    close(cache, index, k);
+    Ok(fetches)
 }

@@ -21,15 +21,14 @@ loop-i-again c =
     let cost : c .cost-fetches .result ≡ fetches-of (outcome k cache page) = c .cost-fetches .ensures .value ∙ ap fetches-of o in
     let word : c .told .result ≡ as-reply (outcome k cache page) = c .told .ensures .value ∙ ap as-reply o in
     let noted : c .note .last .replies ≡ set (c .loop-i .replies) i (as-reply (outcome k cache page)) =
-        c .note .ensures .after ∙ ap (λ (r : Reply). set (c .loop-i .replies) i r) word in
-    let ran = ran-more k (c .args .trace .now) (recent.pages (c .args .index .now)) (c .args .replies .now) i (c .loop-i .fetches) cache (c .loop-i .replies) (inv .1) (omega arith) in
-    (
-        c .request-outcome .ensures .sound,
-        rw (cost, noted, c .request-outcome .ensures .after) ran,
-        c .request-outcome .ensures .beyond ∙ inv .2,
-        omega (arith, ran .few, cost),
-        c .request-outcome .kept .row ∙ inv .4,
-        c .note .kept .replies ∙ inv .5
+    c .note .ensures .after ∙ ap (λ (r : Reply). set (c .loop-i .replies) i r) word in
+    let ran = ran-more k (c .args .trace .now) (recent.pages (c .args .index .now)) (c .args .replies .now) i (c .loop-i .fetches) cache (c .loop-i .replies) (inv .1) (omega arith) in (
+      c .request-outcome .ensures .sound,
+      rw (cost, noted, c .request-outcome .ensures .after) ran,
+      c .request-outcome .ensures .beyond ∙ inv .2,
+      omega (arith, ran .few, cost),
+      c .request-outcome .kept .row ∙ inv .4,
+      c .note .kept .replies ∙ inv .5,
     )
 
 pub returns : need.returns
@@ -39,7 +38,7 @@ returns c =
     let inv = c .loop-i .inv in
     let done = ran-all k (c .args .trace .now) start (c .args .replies .now) (c .loop-i .i) (c .loop-i .fetches) (recent.pages (c .loop-i .index)) (c .loop-i .replies) (inv .1) (omega arith) in
     record {
-        value = done .0;
-        after = record { sound = inv .0; holds = done .1; beyond = inv .2 };
-        replied = rw (length-replies k start (c .args .trace .now)) at (done .2)
+      value = done .0;
+      after = record { sound = inv .0; holds = done .1; beyond = inv .2 };
+      replied = rw (length-replies k start (c .args .trace .now)) at (done .2);
     }
