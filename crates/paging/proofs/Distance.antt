@@ -114,7 +114,7 @@ unfolding last-requested
 since-requested before page between absent =
     let stack = page ∷ without page (last-requested before []) in
     let front : place page stack ≡ 0 = place-first page (without page (last-requested before [])) in
-    let i : place page (last-requested between stack) ≡ 0 + different (missing [] between) = rw front at (place-after page stack between absent) in
+    let i = rw front at (place-after page stack between absent) in
     rw (requested-append before (page ∷ between) []) (omega (arith, rw missing-none at i))
 
 pub stack-distance : Stack-distance

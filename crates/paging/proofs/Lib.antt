@@ -1,13 +1,16 @@
 pub mod Appends
+pub mod Belady
 pub mod Competitive
 pub mod Depth
 pub mod Distance
 pub mod Fronts
+pub mod Furthest
 pub mod Lists
 pub mod Places
 pub mod Recency
 pub mod Room
 pub mod Schedules
+pub mod Soon
 pub mod Stretches
 pub mod Tallies
 pub mod Weights

@@ -1,3 +1,4 @@
+pub mod Belady
 pub mod Claims
 pub mod Distance
 pub mod Lists

@@ -1,6 +1,7 @@
 // What is claimed about paging, and its proofs. No code: each function below says by its contract that a theorem of specs/ holds, and
 // its file in proofs/ cites the lemma that shows it.
 ghost use Rattle.paging.specs.Claims.{Competitive, Competitive-from, Inclusion, Recency, Split, Few-pages, Cold-fetches, Compulsory, Retained, Stack-distance};
+ghost use Rattle.paging.specs.Claims.{Belady-least, Belady-feasible, Any-furthest, Belady-fewest};
 ghost use Rattle.paging.specs.Worked.{Worked};
 
 // LRU with k places fetches at most k / (k - h + 1) times what any schedule with h places fetches, both from empty caches.
@@ -69,6 +70,34 @@ pub fn retained_stands() -> u8
 // One stack of the pages requested last tells for every capacity which requests LRU fetches.
 pub fn stack_distance_stands() -> u8
     ensures { λ _. ⌜ Stack-distance ⌝ }
+{
+    0
+}
+
+// Belady's rule fetches no more than any schedule with as many places.
+pub fn belady_least_stands() -> u8
+    ensures { λ _. ⌜ Belady-least ⌝ }
+{
+    0
+}
+
+// Belady's rule makes a schedule itself.
+pub fn belady_feasible_stands() -> u8
+    ensures { λ _. ⌜ Belady-feasible ⌝ }
+{
+    0
+}
+
+// It does not matter which page goes of several whose next use is furthest.
+pub fn any_furthest_stands() -> u8
+    ensures { λ _. ⌜ Any-furthest ⌝ }
+{
+    0
+}
+
+// What Belady's rule fetches is the offline optimum: some schedule fetches so many, and none fewer.
+pub fn fewest_stands() -> u8
+    ensures { λ _. ⌜ Belady-fewest ⌝ }
 {
     0
 }
