@@ -63,10 +63,10 @@ missing-one after victim (x ∷ xs) gone kept d there =
 
 -- one request
 
-victim : List ℕ → ℕ → List ℕ → ℕ
+unfoldable pub victim : List ℕ → ℕ → List ℕ → ℕ
 victim cache page coming = furthest cache coming (getD cache 0 page)
 
-victim-in : (cache : List ℕ) (page : ℕ) (coming : List ℕ) → 0 < length cache → has cache (victim cache page coming) ≡ true
+pub victim-in : (cache : List ℕ) (page : ℕ) (coming : List ℕ) → 0 < length cache → has cache (victim cache page coming) ≡ true
 unfolding has victim
 victim-in [] page coming pos = grind (arith, tells)
 victim-in (x ∷ xs) page coming pos = let i = furthest-in (x ∷ xs) coming x in grind (arith, tells)
@@ -83,7 +83,7 @@ module _ (h : ℕ) (cache : List ℕ) (page : ℕ) (coming : List ℕ) (pos : 0 
       let kept = has-without v cache in
       missing-one (page ∷ without v cache) v cache (grind (arith, tells)) (λ x t n. let e = kept x n in grind (arith, tells)) d there
 
-  belady-served : length cache ≤ h → Served h cache page (belady h cache page coming)
+  pub belady-served : length cache ≤ h → Served h cache page (belady h cache page coming)
   unfolding has distinct belady victim
   belady-served fits =
       let v = victim cache page coming in

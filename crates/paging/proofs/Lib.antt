@@ -10,6 +10,7 @@ pub mod Places
 pub mod Recency
 pub mod Room
 pub mod Schedules
+pub mod Sifted
 pub mod Soon
 pub mod Stretches
 pub mod Tallies

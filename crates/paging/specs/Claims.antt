@@ -10,6 +10,7 @@ use Rattle.paging.specs.Distance.{found, stack-hits}
 use Rattle.paging.specs.Lists.{has, distinct, place}
 use Rattle.paging.specs.Lru.{lru-fetches, lru-after}
 use Rattle.paging.specs.Schedules.{feasible, schedule-fetches}
+use Rattle.paging.specs.Sifted.{row-hits}
 use Rattle.paging.specs.Stretches.{last-requested, different, missing}
 
 -- LRU with k places fetches at most k / (k - h + 1) times what any schedule with h places fetches, however much that one knows of the
@@ -98,3 +99,8 @@ Any-furthest =
 -- So what it fetches is the offline optimum.
 abbrev pub Belady-fewest : Type 0
 Belady-fewest = (h : ℕ) (trace : List ℕ) → 0 < h → Fewest h trace (belady-fetches h [] trace)
+
+-- One row serves every capacity: what Belady's rule fetches with c places are the requests whose page does not stand among the first c of the
+-- sifted row.
+abbrev pub One-pass : Type 0
+One-pass = (c : ℕ) (trace : List ℕ) → 0 < c → belady-fetches c [] trace + row-hits c [] trace ≡ length trace

@@ -4,5 +4,6 @@ pub mod Distance
 pub mod Lists
 pub mod Lru
 pub mod Schedules
+pub mod Sifted
 pub mod Stretches
 pub mod Worked

@@ -1,7 +1,7 @@
 // What is claimed about paging, and its proofs. No code: each function below says by its contract that a theorem of specs/ holds, and
 // its file in proofs/ cites the lemma that shows it.
 ghost use Rattle.paging.specs.Claims.{Competitive, Competitive-from, Inclusion, Recency, Split, Few-pages, Cold-fetches, Compulsory, Retained, Stack-distance};
-ghost use Rattle.paging.specs.Claims.{Belady-least, Belady-feasible, Any-furthest, Belady-fewest};
+ghost use Rattle.paging.specs.Claims.{Belady-least, Belady-feasible, Any-furthest, Belady-fewest, One-pass};
 ghost use Rattle.paging.specs.Worked.{Worked};
 
 // LRU with k places fetches at most k / (k - h + 1) times what any schedule with h places fetches, both from empty caches.
@@ -98,6 +98,13 @@ pub fn any_furthest_stands() -> u8
 // What Belady's rule fetches is the offline optimum: some schedule fetches so many, and none fewer.
 pub fn fewest_stands() -> u8
     ensures { λ _. ⌜ Belady-fewest ⌝ }
+{
+    0
+}
+
+// One sifted row tells for every capacity how many requests the offline optimum fetches.
+pub fn one_pass_stands() -> u8
+    ensures { λ _. ⌜ One-pass ⌝ }
 {
     0
 }
