@@ -5,12 +5,14 @@ pub mod Depth
 pub mod Distance
 pub mod Fronts
 pub mod Furthest
+pub mod Keyed
 pub mod Lists
 pub mod Places
 pub mod Recency
 pub mod Room
 pub mod Schedules
 pub mod Sifted
+pub mod Sifting
 pub mod Soon
 pub mod Stretches
 pub mod Tallies

@@ -5,8 +5,8 @@ use mathlib.Core.Path.{_≡_, refl}
 use Prim.Native.Nat.{ℕ, zero, suc, _+_, _<_}
 use native.Mathlib.Omega.{arith}
 use lib.Dec.{ltb}
-use lib.ListN.{length, getD, take}
-use Rattle.std.proofs.shelf.Lists.{length-take, take-take}
+use lib.ListN.{length, getD, take, drop}
+use Rattle.std.proofs.shelf.Lists.{length-take, take-take, drop-more}
 use Rattle.std.proofs.shelf.Ways.{tells}
 use Rattle.paging.specs.Belady.{furthest, belady, belady-fetches}
 use Rattle.paging.specs.Claims.{One-pass}
@@ -41,12 +41,12 @@ sifted-distinct coming page carry (x ∷ xs) d =
     let b = has-sifted coming page x xs carry in
     grind (arith, tells)
 
-pub sift-distinct : (row : List ℕ) (page : ℕ) (coming : List ℕ) → distinct row ≡ true → distinct (sift row page coming) ≡ true
-unfolding distinct sift
-sift-distinct row page coming d =
+pub sifted-once : (requests : List ℕ) (page : ℕ) (row : List ℕ) → distinct row ≡ true → distinct (sifted requests page page row) ≡ true
+unfolding distinct
+sifted-once requests page row d =
     let a = without-gone page row d in
     let b = distinct-without page row d in
-    sifted-distinct (page ∷ coming) page page row (grind (arith, tells))
+    sifted-distinct requests page page row (grind (arith, tells))
 
 -- what is carried beyond the first c of the row: the page requested where it stood there, nothing where there was a place left, else the one of
 -- them and carry with the furthest next use
@@ -100,13 +100,13 @@ sift-total f c row page coming pos =
 sift-step :
     (c : ℕ) (row : List ℕ) (page : ℕ) (coming : List ℕ) → 0 < c → distinct row ≡ true →
     belady-fetches c (take c row) (page ∷ coming) ≡ cond (found c page row) 0 1 + belady-fetches c (take c (sift row page coming)) coming
-unfolding belady-fetches
+unfolding belady-fetches sift
 sift-step c row page coming pos d =
     let cache = take c row in
     let next = take c (sift row page coming) in
     let l = length-take c row in
     let s = belady-served c cache page coming pos (distinct-take c row d) (omega arith) in
-    let u = distinct-take c (sift row page coming) (sift-distinct row page coming d) in
+    let u = distinct-take c (sift row page coming) (sifted-once (page ∷ coming) page row d) in
     let m = length-take c (sift row page coming) in
     let same = λ (t : ℕ). sift-total (soon t coming) c row page coming pos in
     let i = belady-same c (belady c cache page coming) next coming pos (s .once) (s .fits) u (omega arith) same in
@@ -119,13 +119,32 @@ pub sift-steps :
     Steps belady-fetches m row page coming (take m (sift row page coming))
 sift-steps m row page coming d c pos le = rw (take-take c m (sift row page coming) le) (sift-step c row page coming pos d)
 
+-- the same, where the page is the i-th request of a trace
+pub sift-steps-at :
+    (m : ℕ) (row trace : List ℕ) (i page : ℕ) → i < length trace → getD trace i 0 ≡ page → distinct row ≡ true →
+    Steps belady-fetches m row page (drop (i + 1) trace) (take m (sifted (drop i trace) page page row))
+unfolding sift
+sift-steps-at m row trace i page lt here d = rw (drop-more trace i 0 lt, here) (sift-steps m row page (drop (i + 1) trace) d)
+
+-- and it stands first then
+first-of : (m page : ℕ) (coming row : List ℕ) → 0 < m → getD (take m (sifted (page ∷ coming) page page row)) 0 0 ≡ page
+unfolding place sifted
+first-of zero page coming row pos = grind (arith, tells)
+first-of (suc m) page coming [] pos = refl
+first-of (suc m) page coming (x ∷ xs) pos = grind (arith, tells)
+
+pub first-sifted :
+    (m : ℕ) (row trace : List ℕ) (i page : ℕ) → 0 < m → i < length trace → getD trace i 0 ≡ page →
+    getD (take m (sifted (drop i trace) page page row)) 0 0 ≡ page
+first-sifted m row trace i page pos lt here = rw (drop-more trace i 0 lt, here) (first-of m page (drop (i + 1) trace) row pos)
+
 pub row-from :
     (c : ℕ) (row trace : List ℕ) → 0 < c → distinct row ≡ true → belady-fetches c (take c row) trace + row-hits c row trace ≡ length trace
-unfolding belady-fetches row-hits
+unfolding belady-fetches sift row-hits
 row-from c row [] pos d = refl
 row-from c row (page ∷ trace) pos d =
     let s = sift-step c row page trace pos d in
-    let i = row-from c (sift row page trace) trace pos (sift-distinct row page trace d) in
+    let i = row-from c (sift row page trace) trace pos (sifted-once (page ∷ trace) page row d) in
     grind (arith, tells)
 
 pub one-pass : One-pass
