@@ -11,6 +11,7 @@ pub mod Places
 pub mod Recency
 pub mod Room
 pub mod Schedules
+pub mod Rows
 pub mod Sifted
 pub mod Sifting
 pub mod Soon
