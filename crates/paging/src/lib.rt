@@ -109,7 +109,7 @@ pub fn one_pass_stands() -> u8
     0
 }
 
-// What LRU does on two traces, counted out, and how it compares with schedules there.
+// What LRU and Belady's rule do on two traces, counted out, and how they compare with schedules there.
 pub fn worked_stands() -> u8
     ensures { λ _. ⌜ Worked ⌝ }
 {
