@@ -1,6 +1,6 @@
 -- The step of a loop over a trace that keeps the sifted row for all capacities at once, cut to as many places as there are counters.
---     Row trace i hits pages keys n     after the first i requests of trace: the first n of pages are the row, the first n of keys its next uses, and
---                                       hits counts at each place how many requests found their page there
+--     Row trace i hits pages keys n     after the first i requests of trace the first n of pages are the row, the first n of keys its next uses,
+--                                       and hits counts at each place how many requests found their page there
 use mathlib.Core.Bool.{true}
 use mathlib.Core.List.{List}
 use mathlib.Core.Path.{_≡_, refl, sym}
@@ -65,7 +65,8 @@ module _
     row-found below at-k =
         let f = sifting-found (drop i trace) page (take n before) pages n k carry s below (omega arith) (length hits) fits at-k in
         let p = keyed-put trace i pages keys n keyed k carry key (omega arith) (omega arith) is-key in
-        let t = tallied-found belady-fetches hits i trace (take n before) (row .tallied) after page lt here steps k (sym (f .2)) (f .1) (omega arith) in
+        let counted = tallied-found belady-fetches hits i trace (take n before) (row .tallied) after page lt here steps k in
+        let t = counted (sym (f .2)) (f .1) (omega arith) in
         ended _ _ _ n (f .0) (omega arith) (simp length-set (omega arith)) (simp length-set (omega arith)) p t
 
     module _ (end : k ≡ n) where
@@ -75,7 +76,8 @@ module _
       row-pushed room =
           let f = sifting-pushed (drop i trace) page (take n before) pages n k carry s end (length hits) room (omega arith) in
           let p = keyed-push trace i pages keys n keyed n carry key (omega arith) (omega arith) is-key refl in
-          let t = tallied-absent belady-fetches hits i trace (take n before) (row .tallied) after page lt here steps (λ there. grind (arith, tells)) in
+          let counted = tallied-absent belady-fetches hits i trace (take n before) (row .tallied) after page lt here steps in
+          let t = counted (λ there. grind (arith, tells)) in
           ended _ _ _ (n + 1) (f .0) (omega arith) (simp length-set (omega arith)) (simp length-set (omega arith)) p t
 
       -- and there is none: the page carried goes
@@ -83,5 +85,6 @@ module _
       unfolding after
       row-dropped full =
           let f = sifting-dropped (drop i trace) page (take n before) pages n k carry s end (omega arith) in
-          let t = tallied-absent belady-fetches hits i trace (take n before) (row .tallied) after page lt here steps (λ there. grind (arith, tells)) in
+          let counted = tallied-absent belady-fetches hits i trace (take n before) (row .tallied) after page lt here steps in
+          let t = counted (λ there. grind (arith, tells)) in
           ended pages keys hits n (rw (← full) (f .0)) (omega arith) (omega arith) (omega arith) keyed t

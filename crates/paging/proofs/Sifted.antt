@@ -31,7 +31,8 @@ has-sifted coming page carry (x ∷ xs) z =
     grind (arith, tells)
 
 sifted-distinct :
-    (coming : List ℕ) (page carry : ℕ) (row : List ℕ) → distinct (carry ∷ without page row) ≡ true → distinct (sifted coming page carry row) ≡ true
+    (coming : List ℕ) (page carry : ℕ) (row : List ℕ) → distinct (carry ∷ without page row) ≡ true →
+    distinct (sifted coming page carry row) ≡ true
 unfolding has without distinct sifted
 sifted-distinct coming page carry [] d = d
 sifted-distinct coming page carry (x ∷ xs) d =

@@ -10,7 +10,7 @@
 --     evicts-furthest full gone before coming
 --                                        of before these went: none, and at a full miss one with the furthest next use
 --     furthest-first h before trace schedule
---                                        schedule evicts only at a full miss, and then some page with the furthest next use
+--                                        schedule, a feasible one, evicts only at a full miss, and then some page with the furthest next use
 --     Fewest h trace n                   some schedule with h places fetches n from an empty cache, and none fetches fewer
 use mathlib.Core.Bool.{Bool, true, false, cond, not, _&&_}
 use mathlib.Core.List.{List, [], _∷_}
@@ -58,8 +58,7 @@ unfoldable pub furthest-first : ℕ → List ℕ → List ℕ → List (List ℕ
 furthest-first h before [] schedule = true
 furthest-first h before (page ∷ coming) [] = true
 furthest-first h before (page ∷ coming) (cache ∷ schedule) =
-    evicts-furthest (not (has before page) && leb h (length before)) (missing cache before) before coming
-    && furthest-first h cache coming schedule
+    evicts-furthest (full-miss h before page) (missing cache before) before coming && furthest-first h cache coming schedule
 
 pub record Fewest (h : ℕ) (trace : List ℕ) (n : ℕ) : Type 0 where
   pub schedule : List (List ℕ)

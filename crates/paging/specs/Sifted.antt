@@ -1,5 +1,5 @@
--- One row of pages for the offline optimum at every capacity: its first c are what Belady's rule keeps in c places, but for the choice between pages
--- whose next use is equally far. Assumes nothing: these are definitions.
+-- One row of pages for the offline optimum at every capacity: its first c are what Belady's rule keeps in c places, but for the choice between
+-- pages whose next use is equally far. Assumes nothing: these are definitions.
 --     sifted coming page carry row     the row with carry sifted down to the place of page, or to the end where page is not there: at each place
 --                                      on the way the one with the nearer next use stays and the other is carried on
 --     sift row page coming             the row after a request for page, with coming after it: page stands first

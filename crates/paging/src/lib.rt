@@ -1,7 +1,7 @@
 // What is claimed about paging, and its proofs. No code: each function below says by its contract that a theorem of specs/ holds, and
 // its file in proofs/ cites the lemma that shows it.
-ghost use Rattle.paging.specs.Claims.{Competitive, Competitive-from, Inclusion, Recency, Split, Few-pages, Cold-fetches, Compulsory, Retained, Stack-distance};
-ghost use Rattle.paging.specs.Claims.{Belady-least, Belady-feasible, Any-furthest, Belady-fewest, One-pass};
+ghost use Rattle.paging.specs.Claims.{Competitive, Competitive-from, Inclusion, Recency, Split, Few-pages, Cold-fetches, Compulsory, Retained};
+ghost use Rattle.paging.specs.Claims.{Stack-distance, Belady-least, Belady-feasible, Any-furthest, Belady-fewest, One-pass};
 ghost use Rattle.paging.specs.Worked.{Worked};
 
 // LRU with k places fetches at most k / (k - h + 1) times what any schedule with h places fetches, both from empty caches.
