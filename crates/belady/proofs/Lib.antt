@@ -1,1 +1,3 @@
+pub mod Carried
 pub mod Known
+pub mod Outcomes

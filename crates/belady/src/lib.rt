@@ -1,4 +1,6 @@
 // The fewest fetches anybody could make who knows the trace, for every number of places.
 mod nexts;
+mod sieve;
+mod sifts;
 
 pub use nexts::next_uses;

@@ -1,5 +1,4 @@
 use mathlib.Core.Path.{_≡_}
-use lib.ListN.{length}
 use Rattle.belady.proofs.Known.{Known, Passed}
 use Rattle.belady.proofs.nexts.next_uses.Given as given
 
@@ -7,4 +6,4 @@ abbrev pub Inv-next : given.InvT-next
 Inv-next l = Passed (l .trace) (l .i) (l .j) × (l .next ≡ l .entry .next)
 
 abbrev pub Inv-day : given.InvT-day
-Inv-day l = Known (l .trace) (l .entry .next) (l .i) (l .next) × (length (l .next) ≡ length (l .entry .next))
+Inv-day l = Known (l .trace) (l .entry .next) (l .i) (l .next)
