@@ -1,3 +1,4 @@
 pub mod Carried
 pub mod Known
 pub mod Outcomes
+pub mod Passes

@@ -1,4 +1,5 @@
 // The fewest fetches anybody could make who knows the trace, for every number of places.
+mod counts;
 mod nexts;
 mod sieve;
 mod sifts;
