@@ -48,7 +48,7 @@ module _ (k : ℕ) (pages rest : List ℕ) where
       let n = row-many in
       let good : shaped (row-of k pages rest) m ≡ true = grind (arith, tells) in
       let none : first-bad 2 [] (cached (row-of k pages rest)) ≡ None =
-          rw row-cached (fine-none 2 [] pages (record { once = once; small = small; apart = λ x there. refl })) in
+      rw row-cached (fine-none 2 [] pages (record { once = once; small = small; apart = λ x there. refl })) in
       fault-pages (row-of k pages rest) m good (omega arith) ∙ none
 
 -- requests keep the pages small, each once, and no more than there are places

@@ -38,11 +38,11 @@ module _ (cache index trace : List ℕ) (k n : ℕ) (checked : Checked cache (le
       let room = checked .room in
       let row : cache′ ≡ row-of k pages (drop (2 + k) cache) = is ∙ ap (λ (xs : List ℕ). row-of k xs (drop (2 + k) cache)) (indexed .holds) in
       let again = row-again k pages (drop (2 + k) cache) (length index′) (checked .low) (checked .high) (omega arith) few
-          (after-once k (cached cache) trace (checked .once)) (after-small k (cached cache) trace narrow (checked .small)) in
+      (after-once k (cached cache) trace (checked .once)) (after-small k (cached cache) trace narrow (checked .small)) in
       record {
-          row = row ∙ ap (λ (j : ℕ). row-of j pages (drop (2 + j) cache)) c;
-          indexed = subst (λ j. Indexed j pages index index′) c indexed;
-          again = rw row again
+        row = row ∙ ap (λ (j : ℕ). row-of j pages (drop (2 + j) cache)) c;
+        indexed = subst (λ j. Indexed j pages index index′) c indexed;
+        again = rw row again;
       }
 
   pub whole-played :
@@ -56,9 +56,9 @@ module _ (cache index trace : List ℕ) (k n : ℕ) (checked : Checked cache (le
       let c = checked .capacity-is in
       let left = whole-left cache′ index′ long (record { sound = ran .sound; holds = rw p at (ran .holds); beyond = ran .beyond ∙ opened .beyond }) is in
       record {
-          fetches = rw c at (rw p at count);
-          replied = rw c at (rw p at replied);
-          left = rw c at left;
-          bounded = λ h start schedule low le ok.
-              rw (rw c at (rw p at count)) (competitive-from (capacity cache) h (cached cache) trace start schedule low le ok)
+        fetches = rw c at (rw p at count);
+        replied = rw c at (rw p at replied);
+        left = rw c at left;
+        bounded = λ h start schedule low le ok.
+            rw (rw c at (rw p at count)) (competitive-from (capacity cache) h (cached cache) trace start schedule low le ok);
       }

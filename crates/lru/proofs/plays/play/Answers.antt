@@ -20,10 +20,10 @@ returns c =
     let narrow = sym (c .in-rest .ensures tt .value) in
     let run = c .run-fetches .ensures in
     record {
-        played =
-            whole-played (c .args .cache .now) (c .args .index .now) (c .args .trace .now) (c .in-Continue-k .k) (c .in-Continue-k .n) checked narrow
-                (c .args .replies .now) (c .run-fetches .last .replies) (c .run-fetches .result) (c .open .last .index) (c .close .last .cache) (c .run-fetches .last .index)
-                (omega arith) (c .open .ensures .after) (run .value) (run .replied) (run .after) (c .close .ensures .after);
-        refused = refused-trace _ _ _ (checked .none) ∙ narrow;
-        same = tt
+      played =
+          whole-played (c .args .cache .now) (c .args .index .now) (c .args .trace .now) (c .in-Continue-k .k) (c .in-Continue-k .n) checked narrow
+          (c .args .replies .now) (c .run-fetches .last .replies) (c .run-fetches .result) (c .open .last .index) (c .close .last .cache) (c .run-fetches .last .index)
+          (omega arith) (c .open .ensures .after) (run .value) (run .replied) (run .after) (c .close .ensures .after);
+      refused = refused-trace _ _ _ (checked .none) ∙ narrow;
+      same = tt;
     }
