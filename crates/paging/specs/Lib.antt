@@ -4,3 +4,5 @@ pub mod Lru
 pub mod Schedules
 pub mod Stretches
 pub mod Worked
+pub mod Adversary
+pub mod Policies
