@@ -8,3 +8,8 @@ pub mod Room
 pub mod Schedules
 pub mod Stretches
 pub mod Weights
+pub mod Fresh
+pub mod Rounds
+pub mod Histories
+pub mod Beside
+pub mod Counts

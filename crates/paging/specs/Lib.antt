@@ -6,3 +6,4 @@ pub mod Stretches
 pub mod Worked
 pub mod Adversary
 pub mod Policies
+pub mod LowerBound

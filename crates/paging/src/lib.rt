@@ -72,3 +72,5 @@ pub fn worked_stands() -> u8
 {
     0
 }
+
+pub mod lower_bound;
