@@ -13,3 +13,5 @@ pub mod Rounds
 pub mod Histories
 pub mod Beside
 pub mod Counts
+pub mod Steps
+pub mod Played

@@ -112,4 +112,4 @@ module _ (k h : ℕ) (r : Round) (le : h ≤ k) (b : Begun h r) where
         apart = distinct-take h all (distinct-once-each [] (second-part k h policy r ++ last-new k h r ∷ pages-of k h r) refl);
         many = omega (arith, length-take h all, pages-many);
         under = λ x here. let a = has-from-take h all x here in let e = has-all policy x in let u = pages-under x in let v = second-under policy x in grind (arith, tells);
-        }
+      }

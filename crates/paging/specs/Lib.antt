@@ -7,3 +7,4 @@ pub mod Worked
 pub mod Adversary
 pub mod Policies
 pub mod LowerBound
+pub mod Stepwise
