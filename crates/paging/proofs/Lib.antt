@@ -15,3 +15,4 @@ pub mod Beside
 pub mod Counts
 pub mod Steps
 pub mod Played
+pub mod Guards

@@ -8,3 +8,4 @@ pub mod Adversary
 pub mod Policies
 pub mod LowerBound
 pub mod Stepwise
+pub mod Guarded

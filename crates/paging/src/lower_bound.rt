@@ -1,4 +1,5 @@
 // What no online policy can do better, whatever its rule.
+ghost use Rattle.paging.specs.Guarded.{Guarded-obeys, Guarded-same, Kept-counts};
 ghost use Rattle.paging.specs.LowerBound.{No-policy-beats, Exact-counts};
 ghost use Rattle.paging.specs.Stepwise.{Plays-exactly};
 
@@ -20,6 +21,21 @@ pub fn exact_counts_stands() -> u8
 // Played one request at a time the adversary requests exactly that, against any policy, and holds the schedule's list at ends of rounds.
 pub fn plays_exactly_stands() -> u8
     ensures { λ _. ⌜ Plays-exactly ⌝ }
+{
+    0
+}
+
+// Whatever a policy does, its guarded one obeys the rules, and shows the same along a run in which the policy kept them.
+pub fn guarded_stands() -> u8
+    ensures obeys { λ _. ⌜ Guarded-obeys ⌝ }
+    ensures same { λ _. ⌜ Guarded-same ⌝ }
+{
+    0
+}
+
+// A policy that kept the rules in its run against the adversary is counted out as one that always obeys them.
+pub fn kept_counts_stands() -> u8
+    ensures { λ _. ⌜ Kept-counts ⌝ }
 {
     0
 }
