@@ -16,3 +16,6 @@ pub mod Counts
 pub mod Steps
 pub mod Played
 pub mod Guards
+pub mod Alternating
+pub mod Failures
+pub mod Entries

@@ -9,3 +9,4 @@ pub mod Policies
 pub mod LowerBound
 pub mod Stepwise
 pub mod Guarded
+pub mod Failing

@@ -73,4 +73,5 @@ pub fn worked_stands() -> u8
     0
 }
 
+pub mod failing;
 pub mod lower_bound;
