@@ -19,3 +19,5 @@ pub mod Guards
 pub mod Alternating
 pub mod Failures
 pub mod Entries
+pub mod Caches
+pub mod Fewest

@@ -10,3 +10,4 @@ pub mod LowerBound
 pub mod Stepwise
 pub mod Guarded
 pub mod Failing
+pub mod Rules

@@ -75,3 +75,4 @@ pub fn worked_stands() -> u8
 
 pub mod failing;
 pub mod lower_bound;
+pub mod rules;
