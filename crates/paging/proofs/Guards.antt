@@ -1,18 +1,24 @@
 -- A guarded policy obeys the rules, and along a run in which the policy kept them the adversary can't tell the two apart.
 use mathlib.Core.Bool.{true}
 use mathlib.Core.List.{List, [], _∷_}
-use mathlib.Core.Path.{_≡_, refl, sym, _∙_}
+use mathlib.Core.Path.{_≡_, refl, sym, _∙_, ap}
 use Prim.Native.Nat.{ℕ, zero, suc, _-_}
 use native.Mathlib.Omega.{arith}
+use lib.ListN.{length}
 use Rattle.std.proofs.shelf.Lists.{nil-from-length}
 use Rattle.std.proofs.shelf.Ways.{tells}
 use Rattle.paging.specs.Adversary.{first-missing, Round, opened, new-pages, pages-of, picks, second-part, requests, next-list, next-round, trace-from, schedule-from, adversary, beside}
-use Rattle.paging.specs.Guarded.{kept, guarded, Guarded-obeys, Guarded-same, Kept-counts}
+use Rattle.paging.specs.Guarded.{kept, guarded, Obeys-kept, Guarded-obeys, Guarded-same, Kept-counts}
 use Rattle.paging.specs.Lists.{has}
 use Rattle.paging.specs.Policies.{Policy, history-after, policy-fetches, keeps}
 use Rattle.paging.specs.Schedules.{only-adds}
 use Rattle.paging.proofs.Counts.{exact-counts}
 use Rattle.paging.proofs.Histories.{history-append}
+
+pub obeys-kept : Obeys-kept
+unfolding kept
+obeys-kept k policy [] o = let e = ap length (o .starts) in grind (arith, tells)
+obeys-kept k policy (page ∷ history) o = let i = obeys-kept k policy history o in let g = o .goes page history in grind (arith, tells)
 
 pub guarded-obeys : Guarded-obeys
 unfolding guarded keeps has only-adds

@@ -21,3 +21,4 @@ pub mod Failures
 pub mod Entries
 pub mod Caches
 pub mod Fewest
+pub mod Bounds

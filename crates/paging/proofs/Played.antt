@@ -70,6 +70,11 @@ unfolding rounds trace-from history-after next-round
 rounds-history k h policy zero r = refl
 rounds-history k h policy (suc m) r = rw history-append (rounds-history k h policy m (next-round k h policy r))
 
+rounds-next : (k h : ℕ) (policy : Policy) (m : ℕ) (r : Round) → rounds k h policy m r .next ≡ r .next + m * suc (k - h)
+unfolding rounds next-round last-new
+rounds-next k h policy zero r = omega arith
+rounds-next k h policy (suc m) r = omega (arith, rounds-next k h policy m (next-round k h policy r))
+
 pub plays-exactly : Plays-exactly
 unfolding adversary opened begins start
 plays-exactly k h m policy pos le =
@@ -77,4 +82,6 @@ plays-exactly k h m policy pos le =
     let parts = plays-add k h policy h (m * k) (h + m * k) (record { position = start; history = [] }) refl in
     let rest = plays-rounds k h policy pos le m (opened h) (begun-opened h) in
     let first : 1 + h ≡ suc h = omega arith in
-    (parts ∙ ap (plays k h policy (m * k)) (rw first at news) ∙ rest, rw history-append (rounds-history k h policy m (opened h)))
+    let new : suc k - h ≡ suc (k - h) = omega arith in
+    let next = rounds-next k h policy m (opened h) in
+    (parts ∙ ap (plays k h policy (m * k)) (rw first at news) ∙ rest, rw history-append (rounds-history k h policy m (opened h)), rw new (omega arith))

@@ -2,6 +2,7 @@
 -- Assumes nothing: these are definitions.
 --     kept k policy history        along history the policy began empty and kept the rules of a cache of k places
 --     guarded k policy history     what the policy shows where that keeps the rules, and only the page requested otherwise
+--     Obeys-kept                   a policy that obeys the rules keeps them along every history
 --     Guarded-obeys                a guarded policy obeys the rules, whatever the policy does
 --     Guarded-same                 where a policy kept the rules its guarded one shows the same
 --     Kept-counts                  a policy that kept the rules against the adversary is counted out as one that obeys them
@@ -23,6 +24,9 @@ unfoldable pub guarded : ℕ → Policy → Policy
 guarded k policy [] = []
 guarded k policy (page ∷ history) =
     cond (keeps k (guarded k policy history) page (policy (page ∷ history))) (policy (page ∷ history)) (page ∷ [])
+
+abbrev pub Obeys-kept : Type 0
+Obeys-kept = (k : ℕ) (policy : Policy) (history : List ℕ) → Obeys k policy → kept k policy history ≡ true
 
 abbrev pub Guarded-obeys : Type 0
 Guarded-obeys = (k : ℕ) (policy : Policy) → 0 < k → Obeys k (guarded k policy)

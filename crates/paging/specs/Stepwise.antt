@@ -11,14 +11,17 @@
 --     step k h policy x             one request further
 --     plays k h policy n x          n requests further
 --     begins r                      the position and the requests so far where round r begins
+--     Bounded k h p                 how long the lists of p are, and that each page in them was requested before or is 0
+--     Stays-bounded                 so it begins, and so it stays, whatever a policy shows
 --     Plays-exactly                 against any policy the steps are the adversary's requests, and at the ends of rounds its list
-use mathlib.Core.Bool.{Bool, cond, _&&_}
+use mathlib.Core.Bool.{Bool, true, cond, _&&_}
 use mathlib.Core.List.{List, [], _∷_, _++_}
 use mathlib.Core.Path.{_≡_}
 use Prim.Native.Nat.{ℕ, zero, suc, _+_, _*_, _-_, _≤_, _<_}
 use lib.Dec.{ltb, leb}
 use lib.ListN.{length, take}
 use Rattle.paging.specs.Adversary.{first-missing, once-each, Round, opened, rounds, adversary}
+use Rattle.paging.specs.Lists.{has}
 use Rattle.paging.specs.Policies.{Policy, history-after}
 
 pub record Position : Type 0 where
@@ -65,8 +68,24 @@ plays k h policy (suc n) x = plays k h policy n (step k h policy x)
 unfoldable pub begins : Round → Play
 begins r = record { position = record { next = r .next; pages = r .list; picked = []; picks = 0 }; history = r .history }
 
+pub record Bounded (k h : ℕ) (p : Position) : Type 0 where
+  pub listed : length (p .pages) ≤ suc k
+  pub noted : length (p .picked) ≤ p .picks
+  pub few : p .picks < h
+  pub some : 0 < p .next
+  pub old : (x : ℕ) → has (p .pages) x ≡ true → x < p .next
+  pub older : (x : ℕ) → has (p .picked) x ≡ true → x < p .next
+
+abbrev pub Stays-bounded : Type 0
+Stays-bounded =
+    (k h : ℕ) → 0 < h → h ≤ k →
+    Bounded k h start
+    × ((p : Position) (shown : List ℕ) → Bounded k h p →
+    (next-request k p shown ≤ p .next) × Bounded k h (moved k h p (next-request k p shown)))
+
 abbrev pub Plays-exactly : Type 0
 Plays-exactly =
     (k h m : ℕ) (policy : Policy) → 0 < h → h ≤ k →
     (plays k h policy (h + m * k) (record { position = start; history = [] }) ≡ begins (rounds k h policy m (opened h)))
     × (rounds k h policy m (opened h) .history ≡ history-after [] (adversary k h policy m))
+    × (rounds k h policy m (opened h) .next ≡ suc (h + m * (suc k - h)))

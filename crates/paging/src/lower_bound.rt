@@ -1,7 +1,7 @@
 // What no online policy can do better, whatever its rule.
-ghost use Rattle.paging.specs.Guarded.{Guarded-obeys, Guarded-same, Kept-counts};
+ghost use Rattle.paging.specs.Guarded.{Obeys-kept, Guarded-obeys, Guarded-same, Kept-counts};
 ghost use Rattle.paging.specs.LowerBound.{No-policy-beats, Exact-counts};
-ghost use Rattle.paging.specs.Stepwise.{Plays-exactly};
+ghost use Rattle.paging.specs.Stepwise.{Plays-exactly, Stays-bounded};
 
 // For every policy with k places there are traces of any length that it fetches whole, beside a schedule with h places that fetches
 // about (k - h + 1) / k of them.
@@ -25,8 +25,17 @@ pub fn plays_exactly_stands() -> u8
     0
 }
 
-// Whatever a policy does, its guarded one obeys the rules, and shows the same along a run in which the policy kept them.
+// What the adversary holds in between: how long its lists get, and that no page in them is new.
+pub fn stays_bounded_stands() -> u8
+    ensures { λ _. ⌜ Stays-bounded ⌝ }
+{
+    0
+}
+
+// A policy that obeys the rules keeps them in every run. Whatever a policy does, its guarded one obeys them, and shows the same along a
+// run in which the policy kept them.
 pub fn guarded_stands() -> u8
+    ensures kept { λ _. ⌜ Obeys-kept ⌝ }
     ensures obeys { λ _. ⌜ Guarded-obeys ⌝ }
     ensures same { λ _. ⌜ Guarded-same ⌝ }
 {

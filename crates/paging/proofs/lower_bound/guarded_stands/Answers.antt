@@ -1,5 +1,5 @@
-use Rattle.paging.proofs.Guards.{guarded-obeys, guarded-same}
+use Rattle.paging.proofs.Guards.{obeys-kept, guarded-obeys, guarded-same}
 use Rattle.paging.proofs.lower_bound.guarded_stands.Needs as need
 
 pub returns : need.returns
-returns c = record { obeys = guarded-obeys; same = guarded-same }
+returns c = record { kept = obeys-kept; obeys = guarded-obeys; same = guarded-same }
