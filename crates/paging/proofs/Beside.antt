@@ -48,32 +48,38 @@ within-only-adds (x ∷ xs) page before w =
     let a = w x in
     grind (arith, tells)
 
--- new pages, where the list at the end holds at most h different pages and the last new one among them
-module _ (h last : ℕ) (list : List ℕ) (apart : distinct list ≡ true) (fits : length list ≤ h) (here : has list last ≡ true) where
+module _ (list : List ℕ) (n : ℕ) where
+  held-first : has (held list n) n ≡ true
+  unfolding held has
+  held-first = grind (arith, tells)
+
+  held-adds : (before : List ℕ) → ((x : ℕ) → x < n → has list x ≡ true → has before x ≡ true) → only-adds (held list n) n before ≡ true
+  unfolding held has
+  held-adds before w =
+      within-only-adds (held list n) n before (λ x there. let a = has-below n list x in let b = w x in grind (arith, tells))
+
+  pub held-keeps : (x : ℕ) → x < suc n → has list x ≡ true → has (held list n) x ≡ true
+  unfolding held has
+  held-keeps x lt there = let a = has-below n list x in grind (arith, tells)
+
+  pub held-under : Under (suc n) (held list n)
+  unfolding held has
+  held-under x there = let a = has-below n list x in grind (arith, tells)
+
+-- the list at the end of a part with new pages: at most h different pages, and the last new one among them
+pub record Ending (h last : ℕ) (list : List ℕ) : Type 0 where
+  pub apart : distinct list ≡ true
+  pub fits : length list ≤ h
+  pub here : has list last ≡ true
+
+module _ (h last : ℕ) (list : List ℕ) (ending : Ending h last list) where
   pub held-fits : (n : ℕ) → n ≤ last → length (held list n) ≤ h
   unfolding held
-  held-fits n le = omega (arith, length-below n last list le here)
+  held-fits n le = let f = ending .fits in omega (arith, length-below n last list le (ending .here))
 
   pub held-apart : (n : ℕ) → distinct (held list n) ≡ true
   unfolding held distinct
-  held-apart n = let i = distinct-below n list apart in let a = has-below n list n in grind (arith, tells)
-
-  held-first : (n : ℕ) → has (held list n) n ≡ true
-  unfolding held has
-  held-first n = grind (arith, tells)
-
-  held-adds : (n : ℕ) (before : List ℕ) → ((x : ℕ) → x < n → has list x ≡ true → has before x ≡ true) → only-adds (held list n) n before ≡ true
-  unfolding held has
-  held-adds n before w =
-      within-only-adds (held list n) n before (λ x there. let a = has-below n list x in let b = w x in grind (arith, tells))
-
-  pub held-keeps : (n x : ℕ) → x < suc n → has list x ≡ true → has (held list n) x ≡ true
-  unfolding held has
-  held-keeps n x lt there = let a = has-below n list x in grind (arith, tells)
-
-  pub held-under : (n : ℕ) → Under (suc n) (held list n)
-  unfolding held has
-  held-under n x there = let a = has-below n list x in grind (arith, tells)
+  held-apart n = let i = distinct-below n list (ending .apart) in let a = has-below n list n in grind (arith, tells)
 
   held-step :
       (n : ℕ) (before trace : List ℕ) (schedule : List (List ℕ)) → n ≤ last → Under n before →
@@ -84,8 +90,8 @@ module _ (h last : ℕ) (list : List ℕ) (apart : distinct list ≡ true) (fits
   held-step n before trace schedule le u w ok =
       let a = held-fits n le in
       let b = held-apart n in
-      let c = held-first n in
-      let d = held-adds n before w in
+      let c = held-first list n in
+      let d = held-adds list n before w in
       let f = u n in
       grind (arith, tells)
 
@@ -102,7 +108,7 @@ module _ (h last : ℕ) (list : List ℕ) (apart : distinct list ≡ true) (fits
       let s = held-step n before trace schedule (omega arith) u w (rw at ok) in
       (s .0, omega (arith, s .1, ap (λ x. schedule-fetches (held list x) trace schedule) at))
   served-new (suc c) n before trace schedule e u w ok =
-      let i = served-new c (suc n) (held list n) trace schedule (omega arith) (held-under n) (held-keeps n) ok in
+      let i = served-new c (suc n) (held list n) trace schedule (omega arith) (held-under list n) (held-keeps list n) ok in
       let s = held-step n before _ _ (omega arith) u w (i .0) in
       (s .0, omega (arith, s .1, i .1))
 

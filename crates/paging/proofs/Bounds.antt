@@ -25,6 +25,17 @@ record Entered (k h : ℕ) (p : Position) : Type 0 where
   older : (x : ℕ) → has (p .picked) x ≡ true → x < p .next
 
 module _ (k h : ℕ) (le : h ≤ k) (pos : 0 < h) where
+  ended-old :
+      (p : Position) → Entered k h p → (x : ℕ) → has (take h (once-each (p .picked) ((p .next - 1) ∷ p .pages))) x ≡ true → x < p .next
+  unfolding has
+  ended-old p b x there =
+      let f = has-from-take h (once-each (p .picked) ((p .next - 1) ∷ p .pages)) x there in
+      let o = has-once-each (p .picked) ((p .next - 1) ∷ p .pages) x in
+      let s = b .some in
+      let u = b .old x in
+      let v = b .older x in
+      grind (arith, tells)
+
   settled-bounded : (p : Position) → Entered k h p → Bounded k h (settled k h p)
   unfolding settled complete has
   settled-bounded p b = go (ltb k (length (p .pages)) && leb h (suc (p .picks))) refl
@@ -34,14 +45,12 @@ module _ (k h : ℕ) (le : h ≤ k) (pos : 0 < h) where
           Bounded k h
           (cond t (record { next = p .next; pages = take h (once-each (p .picked) ((p .next - 1) ∷ p .pages)); picked = []; picks = 0 }) p)
       go true e =
-          let all = once-each (p .picked) ((p .next - 1) ∷ p .pages) in
-          let s = b .some in
           record {
             listed = rw length-take (omega arith);
             noted = omega arith;
             few = pos;
-            some = s;
-            old = λ x there. let f = has-from-take h all x there in let o = has-once-each (p .picked) ((p .next - 1) ∷ p .pages) x in let u = b .old x in let v = b .older x in grind (arith, tells);
+            some = b .some;
+            old = ended-old p b;
             older = λ x there. grind (arith, tells);
           }
       go false e =

@@ -38,17 +38,15 @@ module _ (k : ℕ) (policy : Policy) (starts : policy [] ≡ []) where
     always [] = rw starts (record { fits = omega arith; apart = refl })
     always (page ∷ history) = goes page history (always history) .cached
 
-    pub proper : Proper k policy
+    each : (page : ℕ) (history : List ℕ) → keeps k (policy history) page (policy (page ∷ history)) ≡ true
     unfolding keeps
-    proper =
-        record {
-          obeys =
-              record {
-                starts = starts;
-                goes = λ page history. let g = goes page history (always history) in let a = within-only-adds (policy (page ∷ history)) page (policy history) (g .adds) in grind (arith, tells);
-              };
-          apart = λ history. always history .apart;
-        }
+    each page history =
+        let g = goes page history (always history) in
+        let a = within-only-adds (policy (page ∷ history)) page (policy history) (g .adds) in
+        grind (arith, tells)
+
+    pub proper : Proper k policy
+    proper = record { obeys = record { starts = starts; goes = each }; apart = λ history. always history .apart }
 
 lru-goes : (k : ℕ) (before : List ℕ) (page : ℕ) → 0 < k → Cached k before → Goes k before page (lru k before page)
 unfolding lru distinct has

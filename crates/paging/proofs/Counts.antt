@@ -31,8 +31,17 @@ use Rattle.paging.specs.LowerBound.{Counted, Exact-counts, No-policy-beats}
 use Rattle.paging.specs.Policies.{Policy, history-after, policy-fetches, Obeys}
 use Rattle.paging.specs.Schedules.{feasible, schedule-fetches}
 use Rattle.paging.proofs.Appends.{has-append}
-use Rattle.paging.proofs.Beside.{held-fits, held-apart, held-keeps, held-under, served-new, served-held}
-use Rattle.paging.proofs.Fresh.{Under, has-fresh, length-fresh, distinct-fresh, has-once-each, once-each-append, length-once-each, seen-first}
+use Rattle.paging.proofs.Beside.{Ending, held-fits, held-apart, held-keeps, held-under, served-new, served-held}
+use Rattle.paging.proofs.Fresh.{
+  Under,
+  has-fresh,
+  length-fresh,
+  distinct-fresh,
+  has-once-each,
+  once-each-append,
+  length-once-each,
+  seen-first,
+}
 use Rattle.paging.proofs.Histories.{
   All-fetched,
   history-append,
@@ -45,8 +54,16 @@ use Rattle.paging.proofs.Histories.{
 use Rattle.paging.proofs.Lists.{Within, has-from-take}
 use Rattle.paging.proofs.Rounds.{Begun, begun-opened, begun-next, length-picks, pages-apart, pages-many, second-under, all-pages, has-all}
 
-opening-has : (h : ℕ) → 0 < h → has (fresh h 1) h ≡ true
-opening-has h pos = let a = has-fresh h 1 h in grind (arith, tells)
+opening-ends : (h : ℕ) → 0 < h → Ending h h (fresh h 1)
+opening-ends h pos =
+    record {
+      apart = distinct-fresh h 1;
+      fits = omega (arith, length-fresh h 1);
+      here = let a = has-fresh h 1 h in grind (arith, tells);
+    }
+
+opening-new : (h x : ℕ) → x < 1 → has (fresh h 1) x ≡ true → has [] x ≡ true
+opening-new h x lt here = let a = has-fresh h 1 x in grind (arith, tells)
 
 -- the opening is a part with new pages too
 opening-served :
@@ -58,9 +75,8 @@ unfolding has
 opening-served zero trace schedule pos ok = absurd (omega arith)
 opening-served (suc c) trace schedule pos ok =
     let list = fresh (suc c) 1 in
-    let fits : length list ≤ suc c = omega (arith, length-fresh (suc c) 1) in
-    let old : (x : ℕ) → x < 1 → has list x ≡ true → has [] x ≡ true = λ x lt here. let a = has-fresh (suc c) 1 x in grind (arith, tells) in
-    served-new (suc c) (suc c) list (distinct-fresh (suc c) 1) fits (opening-has (suc c) pos) c 1 [] trace schedule (omega arith) (λ x here. grind (arith, tells)) old ok
+    let none : Under 1 [] = λ x here. grind (arith, tells) in
+    served-new (suc c) (suc c) list (opening-ends (suc c) pos) c 1 [] trace schedule (omega arith) none (opening-new (suc c)) ok
 
 module _ (k h : ℕ) (policy : Policy) (pos : 0 < h) (le : h ≤ k) where
   length-second : (r : Round) → length (second-part k h policy r) ≡ h - 1
@@ -166,12 +182,16 @@ module _ (k h : ℕ) (policy : Policy) (pos : 0 < h) (le : h ≤ k) where
         let begun = begun-next k h r le b policy in
         let list = next-list k h policy r in
         let last = last-new k h r in
-        let fits : length list ≤ h = omega (arith, begun .many) in
+        let ends : Ending h last list = record { apart = begun .apart; fits = omega (arith, begun .many); here = end-last r } in
         let cache = held list last in
-        let keeps : Within list cache = λ x here. held-keeps h last list (begun .apart) fits (end-last r) last x (begun .under x here) here in
-        let i = rounds-beside m next cache begun (held-under h last list (begun .apart) fits (end-last r) last) keeps in
-        let j = served-held h (h - 1) cache (second-part k h policy r) _ _ (held-fits h last list (begun .apart) fits (end-last r) last (omega arith)) (held-apart h last list (begun .apart) fits (end-last r) last) (length-second r) (λ x here. keeps x (end-second r x here)) (i .0) in
-        let n = served-new h last list (begun .apart) fits (end-last r) (k - h) (r .next) before _ _ refl u (λ x lt here. w x (end-old r b x lt here)) (j .0) in
+        let keeps : Within list cache = λ x here. held-keeps list last x (begun .under x here) here in
+        let second : Within (second-part k h policy r) cache = λ x here. keeps x (end-second r x here) in
+        let old : (x : ℕ) → x < r .next → has list x ≡ true → has before x ≡ true = λ x lt here. w x (end-old r b x lt here) in
+        let fits = held-fits h last list ends last (omega arith) in
+        let apart = held-apart h last list ends last in
+        let i = rounds-beside m next cache begun (held-under list last) keeps in
+        let j = served-held h (h - 1) cache (second-part k h policy r) _ _ fits apart (length-second r) second (i .0) in
+        let n = served-new h last list ends (k - h) (r .next) before _ _ refl u old (j .0) in
         rw append-assoc (n .0, omega (arith, n .1, j .1, i .1))
 
     opened-fetched : All-fetched policy (opened h .history)
@@ -194,10 +214,8 @@ module _ (k h : ℕ) (policy : Policy) (pos : 0 < h) (le : h ≤ k) where
         let b = length-fresh h 1 in
         let c = length-history [] (fresh h 1 ++ rest) in
         let list = fresh h 1 in
-        let fits : length list ≤ h = omega (arith, length-fresh h 1) in
-        let here = opening-has h pos in
-        let keeps : Within list (held list h) = λ x there. held-keeps h h list (distinct-fresh h 1) fits here h x (begun .under x there) there in
-        let i = rounds-beside m (opened h) (held list h) begun (held-under h h list (distinct-fresh h 1) fits here h) keeps in
+        let keeps : Within list (held list h) = λ x there. held-keeps list h x (begun .under x there) there in
+        let i = rounds-beside m (opened h) (held list h) begun (held-under list h) keeps in
         let j = opening-served h rest (schedule-from k h policy m (opened h)) pos (i .0) in
         let news : suc k - h ≡ suc (k - h) = omega arith in
         record {
@@ -218,4 +236,6 @@ no-policy-beats k h n policy pos le o =
     let long : n * k ≡ n * suc (k - 1) = ap (λ z. n * z) some in
     let rest : h * k ≡ h * ((suc k - h) + (h - 1)) = ap (λ z. h * z) parts in
     let bound : k * (h + n * (suc k - h)) ≤ (suc k - h) * (h + n * k) + h * (h - 1) = omega arith in
-    (adversary k h policy n, beside k h policy n, omega (arith, c .requested), omega (arith, c .fetched, c .requested), c .allowed, rw (c .fetched-beside, c .requested) bound)
+    let count = c .requested in
+    let all = c .fetched in
+    (adversary k h policy n, beside k h policy n, omega arith, omega arith, c .allowed, rw (c .fetched-beside, count) bound)

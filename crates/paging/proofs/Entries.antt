@@ -100,7 +100,9 @@ traded-goes k a b history p =
     let e = p .holds in
     let d = p .apart in
     let la = p .lacks-a in
-    (rw e (grind (arith, tells)), record { rest = p .rest; holds = missed-full k a b history (p .rest) e (p .full) (p .twice) la d; full = p .full; twice = p .twice; lacks-a = p .lacks-b; lacks-b = la; apart = λ z. d (sym z) })
+    let after : entries k (a ∷ history) ≡ new a ∷ p .rest = missed-full k a b history (p .rest) e (p .full) (p .twice) la d in
+    let goes : Traded k b a (a ∷ history) = record { rest = p .rest; holds = after; full = p .full; twice = p .twice; lacks-a = p .lacks-b; lacks-b = la; apart = λ z. d (sym z) } in
+    (rw e (grind (arith, tells)), goes)
 
 -- and the page requested last again
 again :
@@ -134,7 +136,15 @@ traded-first k history u size o =
     let v = u k in
     let w = u (suc k) in
     let absent : has (pages-in es) k ≡ false = grind (arith, tells) in
-    record { rest = es; holds = missed-room k k history absent (omega arith); full = size; twice = o; lacks-a = grind (arith, tells); lacks-b = absent; apart = λ z. omega arith }
+    record {
+      rest = es;
+      holds = missed-room k k history absent (omega arith);
+      full = size;
+      twice = o;
+      lacks-a = grind (arith, tells);
+      lacks-b = absent;
+      apart = λ z. omega arith;
+    }
 
 pub least-requested-fails : Least-requested-fails
 unfolding in-turn history-after entries pages-in has often

@@ -101,7 +101,14 @@ swapped-first k history u size =
     let w = u (suc k) in
     let absent : has cache k ≡ false = grind (arith, tells) in
     let e = without-absent k cache absent in
-    record { rest = cache; holds = grind (arith, tells); full = size; lacks-a = grind (arith, tells); lacks-b = absent; apart = λ z. omega arith }
+    record {
+      rest = cache;
+      holds = grind (arith, tells);
+      full = size;
+      lacks-a = grind (arith, tells);
+      lacks-b = absent;
+      apart = λ z. omega arith;
+    }
 
 pub last-requested-fails : Last-requested-fails
 unfolding last-requested-goes has in-turn history-after

@@ -116,7 +116,9 @@ distinct-push (y ∷ xs) x d absent =
 pub distinct-once-each : (seen pages : List ℕ) → distinct seen ≡ true → distinct (once-each seen pages) ≡ true
 unfolding once-each
 distinct-once-each seen [] d = d
-distinct-once-each seen (page ∷ pages) d = distinct-once-each (cond (has seen page) seen (seen ++ page ∷ [])) pages (let i = distinct-push seen page in grind (arith, tells))
+distinct-once-each seen (page ∷ pages) d =
+    let i = distinct-push seen page in
+    distinct-once-each (cond (has seen page) seen (seen ++ page ∷ [])) pages (grind (arith, tells))
 
 pub once-each-append : (seen xs ys : List ℕ) → once-each seen (xs ++ ys) ≡ once-each (once-each seen xs) ys
 unfolding once-each

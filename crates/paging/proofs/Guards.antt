@@ -7,7 +7,22 @@ use native.Mathlib.Omega.{arith}
 use lib.ListN.{length}
 use Rattle.std.proofs.shelf.Lists.{nil-from-length}
 use Rattle.std.proofs.shelf.Ways.{tells}
-use Rattle.paging.specs.Adversary.{first-missing, Round, opened, new-pages, pages-of, picks, second-part, requests, next-list, next-round, trace-from, schedule-from, adversary, beside}
+use Rattle.paging.specs.Adversary.{
+  first-missing,
+  Round,
+  opened,
+  new-pages,
+  pages-of,
+  picks,
+  second-part,
+  requests,
+  next-list,
+  next-round,
+  trace-from,
+  schedule-from,
+  adversary,
+  beside,
+}
 use Rattle.paging.specs.Guarded.{kept, guarded, Obeys-kept, Guarded-obeys, Guarded-same, Kept-counts}
 use Rattle.paging.specs.Lists.{has}
 use Rattle.paging.specs.Policies.{Policy, history-after, policy-fetches, keeps}

@@ -4,7 +4,22 @@ use mathlib.Core.Path.{_≡_, refl, ap, _∙_}
 use Prim.Native.Nat.{ℕ, zero, suc, _+_, _*_, _-_, _≤_, _<_}
 use native.Mathlib.Omega.{arith}
 use Rattle.std.proofs.shelf.Lists.{append-nil}
-use Rattle.paging.specs.Adversary.{once-each, Round, opened, new-pages, pages-of, picks, second-part, requests, last-new, next-list, next-round, rounds, trace-from, adversary}
+use Rattle.paging.specs.Adversary.{
+  once-each,
+  Round,
+  opened,
+  new-pages,
+  pages-of,
+  picks,
+  second-part,
+  requests,
+  last-new,
+  next-list,
+  next-round,
+  rounds,
+  trace-from,
+  adversary,
+}
 use Rattle.paging.specs.Policies.{Policy, history-after}
 use Rattle.paging.specs.Stepwise.{start, plays, begins, Plays-exactly}
 use Rattle.paging.proofs.Fresh.{once-each-append}

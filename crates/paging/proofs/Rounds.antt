@@ -103,6 +103,15 @@ module _ (k h : ℕ) (r : Round) (le : h ≤ k) (b : Begun h r) where
       let g = has-fresh (suc (k - h)) (r .next) x in
       grind (arith, tells)
 
+  next-under : (policy : Policy) → Under (suc (last-new k h r)) (next-list k h policy r)
+  unfolding next-list all-pages
+  next-under policy x here =
+      let a : has (all-pages k h policy r) x ≡ true = has-from-take h (all-pages k h policy r) x here in
+      let e = has-all policy x in
+      let u = pages-under x in
+      let v = second-under policy x in
+      grind (arith, tells)
+
   pub begun-next : (policy : Policy) → Begun h (next-round k h policy r)
   unfolding next-round next-list all-pages distinct
   begun-next policy =
@@ -111,5 +120,5 @@ module _ (k h : ℕ) (r : Round) (le : h ≤ k) (b : Begun h r) where
       record {
         apart = distinct-take h all (distinct-once-each [] (second-part k h policy r ++ last-new k h r ∷ pages-of k h r) refl);
         many = omega (arith, length-take h all, pages-many);
-        under = λ x here. let a = has-from-take h all x here in let e = has-all policy x in let u = pages-under x in let v = second-under policy x in grind (arith, tells);
+        under = next-under policy;
       }
