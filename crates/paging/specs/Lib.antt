@@ -11,3 +11,4 @@ pub mod Stepwise
 pub mod Guarded
 pub mod Failing
 pub mod Rules
+pub mod WorkedRounds

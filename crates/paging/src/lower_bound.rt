@@ -2,6 +2,7 @@
 ghost use Rattle.paging.specs.Guarded.{Obeys-kept, Guarded-obeys, Guarded-same, Kept-counts};
 ghost use Rattle.paging.specs.LowerBound.{No-policy-beats, Exact-counts};
 ghost use Rattle.paging.specs.Stepwise.{Plays-exactly, Stays-bounded};
+ghost use Rattle.paging.specs.WorkedRounds.{Worked-rounds};
 
 // For every policy with k places there are traces of any length that it fetches whole, beside a schedule with h places that fetches
 // about (k - h + 1) / k of them.
@@ -45,6 +46,13 @@ pub fn guarded_stands() -> u8
 // A policy that kept the rules in its run against the adversary is counted out as one that always obeys them.
 pub fn kept_counts_stands() -> u8
     ensures { λ _. ⌜ Kept-counts ⌝ }
+{
+    0
+}
+
+// Two runs of the adversary counted out.
+pub fn worked_rounds_stands() -> u8
+    ensures { λ _. ⌜ Worked-rounds ⌝ }
 {
     0
 }
