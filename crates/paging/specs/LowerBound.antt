@@ -2,7 +2,7 @@
 -- that it holds. Assumes nothing: these are definitions.
 --     Counted k h policy m     the opening and m rounds of the adversary against policy, counted out
 --     Exact-counts             every policy that obeys the rules is counted out so
---     No-policy-beats          no policy fetches less than k / (k - h + 1) times what a schedule with h places fetches
+--     No-policy-beats          no policy can promise less than k / (k - h + 1) times what a schedule with h places fetches
 use mathlib.Core.Bool.{true}
 use mathlib.Core.List.{List, []}
 use mathlib.Core.Path.{_≡_}
