@@ -30,7 +30,7 @@ module _ (row : List ℕ) (m : ℕ) where
   fault-pages good few = simp (good, le-leb (getD row 1 0) (capacity row) few)
 
 -- no page is bad: each is small, and none stands before
-none-bad : (t : Bool) (e : Refusal) (o : Option Refusal) → cond t (Some e) o ≡ None → (t ≡ false) × (o ≡ None)
+pub none-bad : (t : Bool) (e : Refusal) (o : Option Refusal) → cond t (Some e) o ≡ None → (t ≡ false) × (o ≡ None)
 none-bad true e o is = let z : _≡_ {A = ℕ} 0 1 = cc in absurd (omega arith)
 none-bad false e o is = (refl, is)
 

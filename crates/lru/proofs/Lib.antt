@@ -6,3 +6,4 @@ pub mod Written
 pub mod Stored
 pub mod Runs
 pub mod Kept
+pub mod Wholes
