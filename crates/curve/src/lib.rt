@@ -1,0 +1,2 @@
+// What LRU fetches with every number of places, in one pass over a trace.
+mod stack;
