@@ -1,1 +1,3 @@
+pub mod Passes
 pub mod Stacks
+pub mod Sums

@@ -10,6 +10,7 @@ ghost use Rattle.paging.specs.Lru.{lru};
 ghost use Rattle.curve.specs.Stacked.{stacked};
 
 // As many pages as the largest capacity of a report has use for.
+#[derive(Drop)]
 pub(crate) struct Stack {
     pages: [u64; 4096],
     len: usize,
