@@ -1,18 +1,18 @@
 -- One pass over the trace: what has been counted after the first i requests, and what one request adds.
 use mathlib.Core.Bool.{true, false}
-use mathlib.Core.List.{List, []}
+use mathlib.Core.List.{List, [], _++_}
 use mathlib.Core.Path.{_≡_, refl, _∙_}
-use Prim.Native.Nat.{ℕ, _+_, _≤_, _<_}
+use Prim.Native.Nat.{ℕ, _+_, _-_, _≤_, _<_}
 use native.Mathlib.Omega.{arith}
 use lib.ListN.{length, getD, set, take, drop, replicate}
 use Rattle.std.specs.shelf.Lists.{sum}
-use Rattle.std.proofs.shelf.Lists.{length-set, getD-set-same, take-all}
+use Rattle.std.proofs.shelf.Lists.{length-set, getD-set-same, getD-append-left, take-all, drop-at}
 use Rattle.std.proofs.shelf.Ways.{tells}
 use Rattle.paging.specs.Lists.{has, place}
 use Rattle.paging.specs.Lru.{lru, lru-fetches}
 use Rattle.paging.proofs.Distance.{stack-steps, fetches-le}
 use Rattle.paging.proofs.Tallies.{Tallied, Steps, tallied-none, tallied-all, tallied-found, tallied-absent, counter-le}
-use Rattle.curve.specs.Counts.{Tally}
+use Rattle.curve.specs.Counts.{Tally, Fetches, Counted}
 
 pub pass-none : (hits trace stack : List ℕ) → hits ≡ replicate (length hits) 0 → stack ≡ [] → Tallied lru-fetches hits 0 trace stack
 pass-none hits trace stack none empty = rw (none, empty) (tallied-none lru-fetches (length hits) trace)
@@ -50,3 +50,12 @@ pub tally-enough : (trace hits : List ℕ) → 1 ≤ length hits → Tally trace
 tally-enough trace hits low tally =
     let all : sum (take (length hits) hits) ≡ sum hits = rw (take-all (length hits) hits (omega arith)) refl in
     omega (arith, tally (length hits) low (omega arith))
+
+-- the first half of a row, lent to be counted into
+pub counted-half :
+    (trace : List ℕ) (m k : ℕ) (row half : List ℕ) → k ≡ m → length half ≡ m → Fetches trace half → Counted trace m row (half ++ drop k row)
+counted-half trace m k row half same len fetches =
+    record {
+      fetches = λ c low high. getD-append-left half (drop k row) 0 (c - 1) (omega arith) ∙ fetches c low (omega arith);
+      beyond = rw same (drop-at half (drop m row) m len);
+    }

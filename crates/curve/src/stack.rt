@@ -8,11 +8,12 @@ ghost use Rattle.std.specs.Options.{Cases as BySome};
 ghost use Rattle.paging.specs.Lists.{has, place};
 ghost use Rattle.paging.specs.Lru.{lru};
 ghost use Rattle.curve.specs.Stacked.{stacked};
+use crate::checks::MAX_CAPACITIES;
 
 // As many pages as the largest capacity of a report has use for.
 #[derive(Drop)]
 pub(crate) struct Stack {
-    pages: [u64; 4096],
+    pages: [u64; MAX_CAPACITIES],
     len: usize,
 }
 
