@@ -1,0 +1,41 @@
+-- When no report is made, and why. Assumes nothing: these are definitions.
+--     first-wide trace          the first page of the trace that is not below 2^32, as a refusal, or None
+--     too-long n                a trace of n requests is longer than 4,096
+--     no-capacities m           the number of capacities m is 0 or above 4,096
+--     too-short m len           a row of len numbers is shorter than two for each of the m capacities
+--     refusal trace m len       the first of these that applies, or None
+--     Checked trace m len       none of them does
+use mathlib.Core.Bool.{cond, _||_}
+use mathlib.Core.List.{List, [], _∷_}
+use mathlib.Core.Path.{_≡_}
+use Prim.Native.Nat.{ℕ, _*_, _^_, _≤_}
+use lib.Dec.{eqb, leb, ltb}
+use lib.ListN.{length}
+use Rattle.std.specs.Options.{orOther, whenTrue}
+use Rattle.std.specs.declared.option.Option.{Option}
+use Rattle.std.specs.declared.option.Option.the-variants.{Some, None}
+use Rattle.lru.specs.declared.refusals.Refusal.{Refusal}
+use Rattle.lru.specs.declared.refusals.Refusal.the-variants.{BadRequest, LongTrace, BadCapacities, ShortReport}
+
+unfoldable pub first-wide : List ℕ → Option Refusal
+first-wide [] = None
+first-wide (page ∷ trace) = cond (leb (2 ^ 32) page) (Some (BadRequest page)) (first-wide trace)
+
+abbrev pub too-long : ℕ → Option Refusal
+too-long n = whenTrue (ltb 4096 n) (LongTrace n)
+
+abbrev pub no-capacities : ℕ → Option Refusal
+no-capacities m = whenTrue (eqb m 0 || ltb 4096 m) (BadCapacities m)
+
+abbrev pub too-short : ℕ → ℕ → Option Refusal
+too-short m len = whenTrue (ltb len (2 * m)) (ShortReport len)
+
+unfoldable pub refusal : List ℕ → ℕ → ℕ → Option Refusal
+refusal trace m len = orOther (first-wide trace) (orOther (too-long (length trace)) (orOther (no-capacities m) (too-short m len)))
+
+pub record Checked (trace : List ℕ) (m len : ℕ) : Type 0 where
+  pub short : length trace ≤ 4096
+  pub low : 1 ≤ m
+  pub high : m ≤ 4096
+  pub long : 2 * m ≤ len
+  pub none : refusal trace m len ≡ None
