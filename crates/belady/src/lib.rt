@@ -4,4 +4,5 @@ mod nexts;
 mod sieve;
 mod sifts;
 
+pub use counts::count;
 pub use nexts::next_uses;
