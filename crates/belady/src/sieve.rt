@@ -6,12 +6,13 @@ ghost use lib.ListN.{length};
 ghost use Rattle.paging.proofs.Rows.{Row};
 ghost use Rattle.belady.specs.Ahead.{next-at};
 use crate::sifts::sift;
+use curve::MAX_CAPACITIES;
 
 // As many pages as the largest capacity of a report has use for.
 #[derive(Drop)]
 pub(crate) struct Sieve {
-    pages: [u64; 4096],
-    keys: [u64; 4096],
+    pages: [u64; MAX_CAPACITIES],
+    keys: [u64; MAX_CAPACITIES],
     len: usize,
 }
 
