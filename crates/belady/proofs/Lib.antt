@@ -7,4 +7,5 @@ pub mod Outcomes
 pub mod Passes
 pub mod Rekeyed
 pub mod Standing
+pub mod Totals
 pub mod Victims

@@ -4,6 +4,7 @@ mod foresight;
 mod nexts;
 mod places;
 mod reports;
+mod rule;
 mod sieve;
 mod sifts;
 
@@ -11,3 +12,4 @@ pub use counts::count;
 pub use foresight::Foresight;
 pub use nexts::next_uses;
 pub use reports::report;
+pub use rule::fetches;
