@@ -1,0 +1,104 @@
+// One line for each day.
+use crate::generator::Kind;
+use crate::generator::fill;
+use crate::simulation::simulate;
+use curve::curve;
+use std::io;
+
+// What a row holds before.
+const MARK: u64 = 7;
+
+// The fetches with a few of the capacities, or the refusal, and whether what is not to be written is as it was.
+pub fn show(
+    rt: &LibcRuntime,
+    name: &str,
+    trace: &[u64],
+    m: usize,
+    row: &mut [u64],
+) -> io::Result<()> {
+    row.fill(MARK);
+    print!(rt, "{name}:")?;
+    let written = match curve(trace, m, row) {
+        Ok(()) => m.min(row.len()),
+        Err(refusal) => {
+            let number = refusal.number();
+            let place = refusal.place();
+            print!(rt, " refused {number} at {place};")?;
+            0
+        }
+    };
+    for i in 0..written {
+        let c = i + 1;
+        if c <= 4 || c == 63 || c == 64 || c == m {
+            let fetches = row[i];
+            print!(rt, " {fetches} with {c};")?;
+        }
+    }
+    if kept(&row[written..]) {
+        println!(rt, " the rest as it was")
+    } else {
+        println!(rt, " the rest is not as it was")
+    }
+}
+
+fn kept(row: &[u64]) -> bool {
+    for x in row {
+        if *x != MARK {
+            return false;
+        }
+    }
+    true
+}
+
+// So many requests over so many pages, and m capacities.
+#[derive(Clone, Copy)]
+pub struct Day {
+    pub requests: usize,
+    pub pages: u64,
+    pub kind: Kind,
+    pub m: usize,
+}
+
+// The curve of a random trace beside one simulation for each capacity.
+pub fn compare(
+    rt: &LibcRuntime,
+    day: Day,
+    buffer: &mut [u64],
+    row: &mut [u64],
+    index: &mut [u64],
+) -> io::Result<()> {
+    let requests = buffer.len().min(day.requests);
+    let pages = day.pages;
+    let m = day.m;
+    let trace = &mut buffer[0..requests];
+    fill(trace, pages, day.kind);
+    match curve(trace, m, row) {
+        Ok(()) => {
+            let same = agreed(trace, m, row, index);
+            println!(
+                rt,
+                "{requests} requests over {pages} pages: {same} of {m} capacities as simulated"
+            )
+        }
+        Err(refusal) => {
+            let number = refusal.number();
+            println!(
+                rt,
+                "{requests} requests over {pages} pages: refused {number}"
+            )
+        }
+    }
+}
+
+// For how many capacities from 1 on the curve is what a simulation fetches.
+fn agreed(trace: &[u64], m: usize, row: &[u64], index: &mut [u64]) -> usize {
+    for i in 0..m.min(row.len()) {
+        let Some(fetches) = simulate(trace, i + 1, index) else {
+            return i;
+        };
+        if fetches != row[i] {
+            return i;
+        }
+    }
+    m
+}
