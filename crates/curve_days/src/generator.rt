@@ -9,6 +9,16 @@ pub enum Kind {
     InTurn,
 }
 
+impl Kind {
+    pub fn name(self) -> &'static str {
+        match self {
+            Kind::AnyPage => "any page",
+            Kind::NearTheLast => "near the last",
+            Kind::InTurn => "in turn",
+        }
+    }
+}
+
 // Makes a trace over so many pages.
 pub fn fill(trace: &mut [u64], pages: u64, kind: Kind) {
     if pages == 0 {

@@ -72,22 +72,15 @@ pub fn compare(
     let m = day.m;
     let trace = &mut buffer[0..requests];
     fill(trace, pages, day.kind);
-    match curve(trace, m, row) {
-        Ok(()) => {
-            let same = agreed(trace, m, row, index);
-            println!(
-                rt,
-                "{requests} requests over {pages} pages: {same} of {m} capacities as simulated"
-            )
-        }
-        Err(refusal) => {
-            let number = refusal.number();
-            println!(
-                rt,
-                "{requests} requests over {pages} pages: refused {number}"
-            )
-        }
-    }
+    let same = match curve(trace, m, row) {
+        Ok(()) => agreed(trace, m, row, index),
+        Err(_) => 0,
+    };
+    let kind = day.kind.name();
+    println!(
+        rt,
+        "{requests} requests over {pages} pages, {kind}: {same} of {m} capacities as simulated"
+    )
 }
 
 // For how many capacities from 1 on the curve is what a simulation fetches.
