@@ -18,31 +18,35 @@ pub fn show(
 ) -> io::Result<()> {
     row.fill(MARK);
     print!(rt, "{name}:")?;
-    let written = match curve(trace, m, row) {
-        Ok(()) => m.min(row.len()),
+    match curve(trace, m, row) {
+        Ok(()) => tell(rt, row, m.min(row.len()), m),
         Err(refusal) => {
             let number = refusal.number();
             let place = refusal.place();
             print!(rt, " refused {number} at {place};")?;
-            0
+            tell(rt, row, 0, m)
         }
-    };
-    for i in 0..written {
-        let c = i + 1;
-        if c <= 4 || c == 63 || c == 64 || c == m {
-            let fetches = row[i];
-            print!(rt, " {fetches} with {c};")?;
-        }
-    }
-    if kept(&row[written..]) {
-        println!(rt, " the rest as it was")
-    } else {
-        println!(rt, " the rest is not as it was")
     }
 }
 
-fn kept(row: &[u64]) -> bool {
-    for x in row {
+// What stands in the first places that were written, and whether the rest is as it was.
+fn tell(rt: &LibcRuntime, row: &[u64], written: usize, m: usize) -> io::Result<()> {
+    for (i, fetches) in row.iter().enumerate().take(written) {
+        let c = i.wrapping_add(1);
+        if c <= 4 || c == 63 || c == 64 || c == m {
+            print!(rt, " {fetches} with {c};")?;
+        }
+    }
+    if kept(row, written) {
+        rt.println(" the rest as it was")
+    } else {
+        rt.println(" the rest is not as it was")
+    }
+}
+
+// Whether each number from a place on is as it was.
+fn kept(row: &[u64], from: usize) -> bool {
+    for x in row.iter().skip(from) {
         if *x != MARK {
             return false;
         }
