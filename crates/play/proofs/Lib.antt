@@ -1,0 +1,4 @@
+pub mod Capacities
+pub mod Decoded
+pub mod Examples
+pub mod Lines

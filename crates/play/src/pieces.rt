@@ -1,0 +1,118 @@
+// The input piece by piece, so that a trace of any length is played in the same memory.
+ghost use mathlib.Core.Path.{_≡_};
+ghost use mathlib.Core.Bool.{true};
+ghost use Prim.Native.Nat.{_%_, _≤_};
+ghost use lib.ListN.{length, take};
+ghost use Rattle.std.specs.Of.String.{string-bytes};
+ghost use Rattle.std.specs.Results.{Cases, isOk};
+ghost use Rattle.recency.specs.Row.{pages};
+ghost use Rattle.trace.specs.Requests.{requests-in, left-over};
+ghost use Rattle.play.specs.Played.{Ready, lines-for, cache-at-end};
+use crate::faults::Fault;
+use crate::requests::serve_bytes;
+use std::io;
+use std::io::ErrorKind;
+use std::io::Read;
+use std::io::Write;
+
+// How many bytes a piece has at most: what a pipe holds.
+pub(crate) const PIECE: usize = 65536;
+
+// One read, made again where a signal interrupts it.
+fn read_some<R: Read>(input: &mut R, buf: &mut [u8]) -> Result<usize, Fault>
+    ensures bound { λ r. ⌜ Cases r (λ n. n ≤ length (now (buf .entry))) (λ _. Unit {0}) ⌝ }
+{
+    for _ in 0..u64::MAX {
+        match input.read(buf) {
+            Ok(n) => return Ok(n),
+            Err(e) => {
+                if e.kind() != ErrorKind::Interrupted {
+                    return Err(Fault::Input(e));
+                }
+            }
+        }
+    }
+    Err(Fault::Input(io::Error::from(ErrorKind::Interrupted)))
+}
+
+// Reads until the buffer is full or the input ends, and says how many bytes came.
+pub(crate) fn fill<R: Read>(input: &mut R, buf: &mut [u8]) -> Result<usize, Fault>
+    ensures bound { λ r. ⌜ Cases r (λ n. n ≤ length (now (buf .entry))) (λ _. Unit {0}) ⌝ }
+{
+    let mut at = 0;
+    while at < buf.len() {
+        let n = read_some(input, &mut buf[at..])?;
+        if n == 0 {
+            break;
+        }
+        at += n;
+    }
+    Ok(at)
+}
+
+// Moves what the first n bytes leave over after the last whole request to the front, and says how many bytes that is.
+fn keep_rest(buf: &mut [u8], n: usize) -> usize
+    requires { ⌜ n ≤ length (now buf) ⌝ }
+    ensures value { λ r. ⌜ r ≡ n % 4 ⌝ }
+    ensures after { λ r. ⌜ take r (now (buf .exit)) ≡ left-over (take n (now (buf .entry))) ⌝ }
+{
+    let rest = n % 4;
+    for i in 0..rest {
+        buf[i] = buf[n - rest + i];
+    }
+    rest
+}
+
+// Serves the whole requests of a piece, and writes their lines, which the text then holds.
+fn play_piece<W: Write>(
+    out: &mut W,
+    row: &mut [u64],
+    k: usize,
+    bytes: &[u8],
+    text: &mut String,
+) -> Result<(), Fault>
+    requires ready { ⌜ Ready k (now row) ⌝ }
+    requires short { ⌜ length (now bytes) ≤ 65536 ⌝ }
+    ensures ready { λ _. ⌜ Ready k (now (row .exit)) ⌝ }
+    ensures lines { λ r. ⌜ (isOk r ≡ true → string-bytes (now (text .exit)) ≡ lines-for k (pages (now (row .entry))) (requests-in (now (bytes .entry)))) ⌝ }
+    ensures after { λ r. ⌜ (isOk r ≡ true → pages (now (row .exit)) ≡ cache-at-end k (pages (now (row .entry))) (requests-in (now (bytes .entry)))) ⌝ }
+{
+    text.clear();
+    if serve_bytes(row, k, bytes, text).is_err() {
+        return Err(Fault::Memory);
+    }
+    match out.write_all(text.as_bytes()) {
+        Ok(()) => Ok(()),
+        Err(e) => Err(Fault::Output(e)),
+    }
+}
+
+// Plays the requests up to the end of the input. Nothing says that an input ends, so the turns are counted.
+pub(crate) fn play_all<R: Read, W: Write>(
+    input: &mut R,
+    out: &mut W,
+    row: &mut [u64],
+    k: usize,
+    buf: &mut [u8],
+    text: &mut String,
+) -> Result<(), Fault>
+    requires ready { ⌜ Ready k (now row) ⌝ }
+    requires room { ⌜ length (now buf) ≡ 65536 ⌝ }
+{
+    let mut held = 0;
+    let mut served = 0u64;
+    for _ in 0..u64::MAX {
+        let n = read_some(input, &mut buf[held..])?;
+        if n == 0 {
+            break;
+        }
+        let filled = held + n;
+        play_piece(out, row, k, &buf[0..filled], text)?;
+        served = served.saturating_add(filled as u64 / 4);
+        held = keep_rest(buf, filled);
+    }
+    if held > 0 {
+        return Err(Fault::InRequest(served));
+    }
+    Ok(())
+}
