@@ -1,11 +1,11 @@
 -- When a cache row is one: what the search for a bad page shows, and back.
-use mathlib.Core.Path.{_≡_, refl, ap, sym, _∙_}
-use mathlib.Core.Bool.{Bool, true, false, cond, not, _&&_, _||_}
+use mathlib.Core.Path.{_≡_, refl, ap}
+use mathlib.Core.Bool.{Bool, true, false, cond, _||_}
 use mathlib.Core.List.{List, [], _∷_}
 use native.Mathlib.Omega.{arith}
-use Prim.Native.Nat.{ℕ, suc, _+_, _^_, _≤_, _<_}
-use lib.Dec.{leb, eqb}
-use lib.ListN.{length, getD}
+use Prim.Native.Nat.{ℕ, suc, _^_, _≤_, _<_}
+use lib.Dec.{leb}
+use lib.ListN.{getD}
 use Rattle.std.specs.declared.option.Option.{Option}
 use Rattle.std.specs.declared.option.Option.the-variants.{Some, None}
 use Rattle.std.proofs.shelf.Tests.{le-leb, lt-leb}
@@ -30,7 +30,7 @@ module _ (row : List ℕ) (m : ℕ) where
   fault-pages good few = simp (good, le-leb (getD row 1 0) (capacity row) few)
 
 -- no page is bad: each is small, and none stands before
-none-bad : (t : Bool) (e : Refusal) (o : Option Refusal) → cond t (Some e) o ≡ None → (t ≡ false) × (o ≡ None)
+pub none-bad : (t : Bool) (e : Refusal) (o : Option Refusal) → cond t (Some e) o ≡ None → (t ≡ false) × (o ≡ None)
 none-bad true e o is = let z : _≡_ {A = ℕ} 0 1 = cc in absurd (omega arith)
 none-bad false e o is = (refl, is)
 

@@ -1,7 +1,7 @@
 -- The search for a page that stands twice or is too large, one page on.
-use mathlib.Core.Path.{_≡_, refl, ap, sym, _∙_}
+use mathlib.Core.Path.{_≡_, _∙_}
 use mathlib.Core.Bool.{true, false, cond, _||_}
-use mathlib.Core.List.{List, [], _∷_}
+use mathlib.Core.List.{List, _∷_}
 use native.Mathlib.Omega.{arith}
 use Prim.Native.Nat.{ℕ, suc, _+_, _^_, _≤_, _<_}
 use lib.Dec.{leb}
@@ -41,3 +41,20 @@ module _ (seen pages : List ℕ) (i : ℕ) where
   pub scan-all : length pages ≤ i → first-bad (2 + i) seen (drop i pages) ≡ None
   unfolding first-bad
   scan-all end = at-drop-all (first-bad (2 + i) seen) pages i end
+
+-- the search for a request that is too large
+module _ (trace : List ℕ) (i : ℕ) where
+  wide-here : i < length trace →
+      first-wide (drop i trace) ≡ cond (leb (2 ^ 32) (getD trace i 0)) (Some (BadRequest (getD trace i 0))) (first-wide (drop (i + 1) trace))
+  unfolding first-wide
+  wide-here lt = at-drop-more first-wide trace i 0 lt
+
+  pub wide-found : i < length trace → 2 ^ 32 ≤ getD trace i 0 → first-wide (drop i trace) ≡ Some (BadRequest (getD trace i 0))
+  wide-found lt wide = wide-here lt ∙ simp (le-leb (2 ^ 32) (getD trace i 0) wide)
+
+  pub wide-more : i < length trace → getD trace i 0 < 2 ^ 32 → first-wide (drop i trace) ≡ first-wide (drop (i + 1) trace)
+  wide-more lt small = wide-here lt ∙ simp (lt-leb (2 ^ 32) (getD trace i 0) small)
+
+  pub wide-all : length trace ≤ i → first-wide (drop i trace) ≡ None
+  unfolding first-wide
+  wide-all end = at-drop-all first-wide trace i end

@@ -6,6 +6,9 @@ mod replies;
 mod rows;
 
 pub use checks::check;
+pub use plays::play;
+pub use plays::request;
+pub use plays::serve;
 pub use refusals::Refusal;
 pub use replies::Reply;
 pub use rows::close;

@@ -2,18 +2,19 @@
 -- of different pages requested since.
 use mathlib.Core.Bool.{true, false, cond}
 use mathlib.Core.List.{List, [], _∷_, _++_}
-use mathlib.Core.Path.{_≡_, refl}
+use mathlib.Core.Path.{_≡_, refl, ap}
 use Prim.Native.Nat.{ℕ, zero, suc, _+_, _≤_}
 use native.Mathlib.Omega.{arith}
-use lib.ListN.{length, take}
-use Rattle.std.proofs.shelf.Lists.{take-take}
+use native.Mathlib.Numerals.{add-one}
+use lib.ListN.{length, take, drop}
+use Rattle.std.proofs.shelf.Lists.{take-all, take-take}
 use Rattle.std.proofs.shelf.Ways.{tells}
 use Rattle.paging.specs.Claims.{Stack-distance}
 use Rattle.paging.specs.Distance.{found, stack-hits}
 use Rattle.paging.specs.Lists.{has, without, place}
 use Rattle.paging.specs.Lru.{lru, lru-fetches}
 use Rattle.paging.specs.Stretches.{last-requested, different, missing}
-use Rattle.paging.proofs.Lists.{take-none, has-from-take}
+use Rattle.paging.proofs.Lists.{take-none, without-absent, length-without, has-from-take}
 use Rattle.paging.proofs.Places.{place-first}
 use Rattle.paging.proofs.Recency.{lru-take, recency}
 use Rattle.paging.proofs.Room.{retained}
@@ -26,6 +27,11 @@ has-take zero page row = grind (arith, tells)
 has-take (suc c) page [] = refl
 has-take (suc c) page (x ∷ xs) = let i = has-take c page xs in grind (arith, tells)
 
+without-place : (x : ℕ) (xs : List ℕ) → has xs x ≡ true → without x xs ≡ take (place x xs) xs ++ drop (suc (place x xs)) xs
+unfolding has without place
+without-place x [] there = grind (arith, tells)
+without-place x (y ∷ ys) there = let i = without-place x ys in grind (arith, tells)
+
 -- one request, at every capacity up to the m places that the stack is cut to
 pub stack-steps : (m : ℕ) (stack : List ℕ) (page : ℕ) (rest : List ℕ) → Steps lru-fetches m stack page rest (lru m stack page)
 unfolding lru lru-fetches
@@ -34,6 +40,20 @@ stack-steps m stack page rest c _ le =
     let b = lru-take c page stack in
     let e = take-take c m (page ∷ without page stack) le in
     rw (a, b, e) (grind (arith, tells))
+
+-- the stack after a request, for a loop that knows the place of the page
+pub lru-found :
+    (m : ℕ) (stack : List ℕ) (page : ℕ) → length stack ≤ m → has stack page ≡ true →
+    lru m stack page ≡ page ∷ take (place page stack) stack ++ drop (place page stack + 1) stack
+unfolding lru
+lru-found m stack page le there =
+    let l = length-without page stack in
+    let a = take-all m (page ∷ without page stack) (grind (arith, tells)) in
+    rw (a, add-one) (ap (λ xs. page ∷ xs) (without-place page stack there))
+
+pub lru-absent : (m : ℕ) (stack : List ℕ) (page : ℕ) → has stack page ≡ false → lru m stack page ≡ take m (page ∷ stack)
+unfolding lru
+lru-absent m stack page absent = rw (without-absent page stack absent) refl
 
 pub fetches-le : (k : ℕ) (cache trace : List ℕ) → lru-fetches k cache trace ≤ length trace
 unfolding lru-fetches
@@ -114,7 +134,7 @@ unfolding last-requested
 since-requested before page between absent =
     let stack = page ∷ without page (last-requested before []) in
     let front : place page stack ≡ 0 = place-first page (without page (last-requested before [])) in
-    let i : place page (last-requested between stack) ≡ 0 + different (missing [] between) = rw front at (place-after page stack between absent) in
+    let i = rw front at (place-after page stack between absent) in
     rw (requested-append before (page ∷ between) []) (omega (arith, rw missing-none at i))
 
 pub stack-distance : Stack-distance

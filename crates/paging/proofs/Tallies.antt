@@ -59,7 +59,8 @@ module _ (F : ℕ → List ℕ → List ℕ → ℕ) where
 
     -- no counter outgrows the trace
     pub counter-le :
-        (d : ℕ) → d < length hits → i ≤ length trace → ((c : ℕ) (cache rest : List ℕ) → F c cache rest ≤ length rest) → getD hits d 0 ≤ length trace
+        (d : ℕ) → d < length hits → i ≤ length trace → ((c : ℕ) (cache rest : List ℕ) → F c cache rest ≤ length rest) →
+        getD hits d 0 ≤ length trace
     counter-le d lt le few =
         let m = length hits in
         let s = so-far m (omega arith) (omega arith) in

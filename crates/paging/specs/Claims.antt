@@ -5,10 +5,12 @@ use mathlib.Core.List.{List, [], _∷_, _++_}
 use mathlib.Core.Path.{_≡_}
 use Prim.Native.Nat.{ℕ, suc, _+_, _*_, _-_, _≤_, _<_}
 use lib.ListN.{length, take}
+use Rattle.paging.specs.Belady.{belady-fetches, belady-schedule, furthest-first, Fewest}
 use Rattle.paging.specs.Distance.{found, stack-hits}
 use Rattle.paging.specs.Lists.{has, distinct, place}
 use Rattle.paging.specs.Lru.{lru-fetches, lru-after}
 use Rattle.paging.specs.Schedules.{feasible, schedule-fetches}
+use Rattle.paging.specs.Sifted.{row-hits}
 use Rattle.paging.specs.Stretches.{last-requested, different, missing}
 
 -- LRU with k places fetches at most k / (k - h + 1) times what any schedule with h places fetches, however much that one knows of the
@@ -74,3 +76,31 @@ pub record Stack-distance : Type 0 where
       (has (last-requested (before ++ page ∷ between) []) page ≡ true)
       × (place page (last-requested (before ++ page ∷ between) []) ≡ different between)
   pub fetches : (c : ℕ) (trace : List ℕ) → lru-fetches c [] trace + stack-hits c [] trace ≡ length trace
+
+-- Belady's rule fetches no more than any schedule with as many places.
+abbrev pub Belady-least : Type 0
+Belady-least =
+    (h : ℕ) (trace : List ℕ) (schedule : List (List ℕ)) → 0 < h → feasible h [] trace schedule ≡ true →
+    belady-fetches h [] trace ≤ schedule-fetches [] trace schedule
+
+-- And it makes a schedule itself.
+abbrev pub Belady-feasible : Type 0
+Belady-feasible =
+    (h : ℕ) (trace : List ℕ) → 0 < h →
+    (feasible h [] trace (belady-schedule h [] trace) ≡ true)
+    × (schedule-fetches [] trace (belady-schedule h [] trace) ≡ belady-fetches h [] trace)
+
+-- It does not matter which page goes of several whose next use is furthest.
+abbrev pub Any-furthest : Type 0
+Any-furthest =
+    (h : ℕ) (trace : List ℕ) (schedule : List (List ℕ)) → 0 < h → feasible h [] trace schedule ≡ true →
+    furthest-first h [] trace schedule ≡ true → schedule-fetches [] trace schedule ≡ belady-fetches h [] trace
+
+-- So what it fetches is the offline optimum.
+abbrev pub Belady-fewest : Type 0
+Belady-fewest = (h : ℕ) (trace : List ℕ) → 0 < h → Fewest h trace (belady-fetches h [] trace)
+
+-- One row serves every capacity: what Belady's rule fetches with c places are the requests whose page does not stand among the first c of the
+-- sifted row.
+abbrev pub One-pass : Type 0
+One-pass = (c : ℕ) (trace : List ℕ) → 0 < c → belady-fetches c [] trace + row-hits c [] trace ≡ length trace

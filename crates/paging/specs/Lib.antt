@@ -1,7 +1,17 @@
+pub mod Belady
 pub mod Claims
 pub mod Distance
 pub mod Lists
 pub mod Lru
 pub mod Schedules
+pub mod Sifted
 pub mod Stretches
 pub mod Worked
+pub mod Adversary
+pub mod Policies
+pub mod LowerBound
+pub mod Stepwise
+pub mod Guarded
+pub mod Failing
+pub mod Rules
+pub mod WorkedRounds

@@ -1,6 +1,7 @@
 // What is claimed about paging, and its proofs. No code: each function below says by its contract that a theorem of specs/ holds, and
 // its file in proofs/ cites the lemma that shows it.
-ghost use Rattle.paging.specs.Claims.{Competitive, Competitive-from, Inclusion, Recency, Split, Few-pages, Cold-fetches, Compulsory, Retained, Stack-distance};
+ghost use Rattle.paging.specs.Claims.{Competitive, Competitive-from, Inclusion, Recency, Split, Few-pages, Cold-fetches, Compulsory, Retained};
+ghost use Rattle.paging.specs.Claims.{Stack-distance, Belady-least, Belady-feasible, Any-furthest, Belady-fewest, One-pass};
 ghost use Rattle.paging.specs.Worked.{Worked};
 
 // LRU with k places fetches at most k / (k - h + 1) times what any schedule with h places fetches, both from empty caches.
@@ -73,9 +74,48 @@ pub fn stack_distance_stands() -> u8
     0
 }
 
-// What LRU does on two traces, counted out, and how it compares with schedules there.
+// Belady's rule fetches no more than any schedule with as many places.
+pub fn belady_least_stands() -> u8
+    ensures { λ _. ⌜ Belady-least ⌝ }
+{
+    0
+}
+
+// Belady's rule makes a schedule itself.
+pub fn belady_feasible_stands() -> u8
+    ensures { λ _. ⌜ Belady-feasible ⌝ }
+{
+    0
+}
+
+// It does not matter which page goes of several whose next use is furthest.
+pub fn any_furthest_stands() -> u8
+    ensures { λ _. ⌜ Any-furthest ⌝ }
+{
+    0
+}
+
+// What Belady's rule fetches is the offline optimum: some schedule fetches so many, and none fewer.
+pub fn fewest_stands() -> u8
+    ensures { λ _. ⌜ Belady-fewest ⌝ }
+{
+    0
+}
+
+// One sifted row tells for every capacity how many requests the offline optimum fetches.
+pub fn one_pass_stands() -> u8
+    ensures { λ _. ⌜ One-pass ⌝ }
+{
+    0
+}
+
+// What LRU and Belady's rule do on two traces, counted out, and how they compare with schedules there.
 pub fn worked_stands() -> u8
     ensures { λ _. ⌜ Worked ⌝ }
 {
     0
 }
+
+pub mod failing;
+pub mod lower_bound;
+pub mod rules;
