@@ -9,12 +9,12 @@ use native.Mathlib.Omega.{arith}
 use lib.ListN.{length, getD, take, drop}
 use Rattle.std.proofs.shelf.Lists.{length-take-le, getD-take, take-at}
 use Rattle.std.proofs.shelf.Tests.{cases-lt, lt-ltb, le-ltb}
-use Rattle.paging.specs.Belady.{next-use, furthest, belady}
+use Rattle.paging.specs.Belady.{next-use, belady}
 use Rattle.paging.specs.Lists.{has, without, distinct, place}
 use Rattle.paging.proofs.Keyed.{Keyed}
 use Rattle.curve.proofs.Stacks.{lifted, stack-absent, taken-out}
 use Rattle.belady.specs.Ahead.{next-at}
-use Rattle.belady.specs.Kept.{Kept, Latest, Place}
+use Rattle.belady.specs.Kept.{Kept, Place}
 use Rattle.belady.proofs.Keeping.{Stepped, stepped}
 use Rattle.belady.proofs.Rekeyed.{key-stays, keyed-lifted}
 use Rattle.belady.proofs.Standing.{place-before, place-at}

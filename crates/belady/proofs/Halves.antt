@@ -1,13 +1,13 @@
 -- A report's row after both halves were written, one after the other.
 use mathlib.Core.List.{List, [], _++_}
-use mathlib.Core.Path.{_≡_, refl, sym, _∙_}
+use mathlib.Core.Path.{_≡_, refl, _∙_}
 use Prim.Native.Nat.{ℕ, suc, _+_, _*_, _-_, _≤_}
 use native.Mathlib.Omega.{arith}
 use borrow.Rule.Slice.PartMut.{putMid, postOf}
-use lib.ListN.{length, getD, take, drop}
+use lib.ListN.{length, getD, drop}
 use Rattle.std.proofs.shelf.Lists.{length-append, take-at, getD-append-left, getD-append-right}
 use Rattle.std.proofs.shelf.Parts.{drop-putMid, drop-append-drop}
-use Rattle.paging.specs.Belady.{belady-fetches, Fewest}
+use Rattle.paging.specs.Belady.{Fewest}
 use Rattle.paging.specs.Lru.{lru-fetches}
 use Rattle.paging.proofs.Belady.{fewest}
 use Rattle.paging.proofs.Competitive.{competitive}

@@ -1,6 +1,5 @@
 -- A cache that Belady's rule keeps, one request further.
 --     Stepped h trace i cache pages keys n     the i-th request of trace has made the first n of pages of cache
-use mathlib.Core.Bool.{true}
 use mathlib.Core.List.{List, [], _∷_}
 use mathlib.Core.Path.{_≡_, refl, ap, sym, _∙_}
 use Prim.Native.Nat.{ℕ, _+_, _≤_, _<_}

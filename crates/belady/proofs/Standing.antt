@@ -1,12 +1,12 @@
 -- Where a page stands that is read at a place.
-use mathlib.Core.Bool.{true, false}
+use mathlib.Core.Bool.{true}
 use mathlib.Core.List.{List, [], _∷_}
-use mathlib.Core.Path.{_≡_, refl}
+use mathlib.Core.Path.{_≡_}
 use Prim.Native.Nat.{ℕ, zero, suc, _≤_, _<_}
 use native.Mathlib.Omega.{arith}
 use lib.ListN.{length, getD}
 use Rattle.std.proofs.shelf.Ways.{tells}
-use Rattle.paging.specs.Lists.{has, distinct, place}
+use Rattle.paging.specs.Lists.{distinct, place}
 use Rattle.paging.proofs.Places.{has-place}
 
 pub place-before : (xs : List ℕ) (j : ℕ) → j < length xs → place (getD xs j 0) xs ≤ j

@@ -8,11 +8,10 @@
 use mathlib.Core.Bool.{true}
 use mathlib.Core.List.{List, []}
 use mathlib.Core.Path.{_≡_}
-use Prim.Native.Nat.{ℕ, _≤_, _<_}
+use Prim.Native.Nat.{ℕ, _+_, _≤_, _<_}
 use lib.ListN.{getD, take, drop}
-use Rattle.paging.specs.Belady.{belady-schedule}
+use Rattle.paging.specs.Belady.{next-use, belady-schedule}
 use Rattle.paging.specs.Lists.{distinct}
-use Rattle.paging.proofs.Keyed.{Keyed}
 use Rattle.belady.specs.declared.foresight.Foresight.{Foresight}
 
 abbrev pub held : Foresight → List ℕ
@@ -23,7 +22,7 @@ pub record Kept (h : ℕ) (trace : List ℕ) (i : ℕ) (pages keys : List ℕ) (
   pub high : h ≤ 4096
   pub few : n ≤ h
   pub once : distinct (take n pages) ≡ true
-  pub keyed : Keyed trace i pages keys n
+  pub keyed : (j : ℕ) → j < n → getD keys j 0 ≡ i + next-use (getD pages j 0) (drop i trace)
   pub due : belady-schedule h (take n pages) (drop i trace) ≡ drop i (belady-schedule h [] trace)
 
 abbrev pub Ready : List ℕ → ℕ → Foresight → Type 0

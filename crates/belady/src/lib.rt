@@ -1,4 +1,5 @@
-// The fewest fetches anybody could make who knows the trace, for every number of places.
+// The fewest fetches anybody could make who knows the trace: for one number of places by Belady's rule itself, request by request, and for
+// every number of places in one pass. The report has both halves: what LRU fetches, and the fewest.
 mod counts;
 mod foresight;
 mod nexts;

@@ -1,5 +1,4 @@
 // The row of pages for every capacity: a request carries its page down the row, and the nearer of two pages stays in front.
-ghost use mathlib.Core.Path.{_≡_};
 ghost use Prim.Native.Nat.{_≤_, _<_};
 ghost use lib.ListN.{length, take};
 ghost use Rattle.paging.proofs.Keyed.{Keyed};

@@ -1,5 +1,4 @@
 use mathlib.Core.Path.{_≡_}
-use Prim.Native.Nat.{_≤_}
 use Rattle.belady.specs.Kept.{held, Ready}
 use Rattle.belady.proofs.Totals.{Fetched}
 use Rattle.belady.proofs.rule.run.Given as given

@@ -1,5 +1,5 @@
 use mathlib.Core.Bool.{not}
-use mathlib.Core.Path.{_≡_, refl, ap, sym}
+use mathlib.Core.Path.{refl, ap, sym}
 use native.Mathlib.Omega.{arith}
 use Rattle.curve.proofs.Stacks.{stack-found}
 use Rattle.belady.proofs.Comings.{absent, stepped-comes}
