@@ -24,7 +24,7 @@ impl Stack {
         ensures len { λ r. ⌜ r .len ≡ 0 ⌝ }
     {
         Stack {
-            pages: [0; 4096],
+            pages: [0; MAX_CAPACITIES],
             len: 0,
         }
     }

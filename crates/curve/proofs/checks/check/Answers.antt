@@ -1,13 +1,13 @@
 use mathlib.Core.Path.{_≡_, sym, _∙_}
 use native.Mathlib.Omega.{arith}
 use Rattle.std.specs.declared.option.Option.the-variants.{None}
-use Rattle.curve.specs.Refused.{first-wide}
+use Rattle.lru.specs.Rows.{first-wide}
 use Rattle.curve.proofs.Reasons.{refused-wide, refused-long, refused-capacities, refused-short, refused-none}
 use Rattle.curve.proofs.checks.check.Needs as need
 
 pub returns-in-Some : need.returns-in-Some
 returns-in-Some c =
-    record { refused = sym (refused-wide _ _ _ _ (sym (c .wide .ensures .value) ∙ c .in-Some .is)); checked = tt }
+    record { refused = sym (refused-wide _ _ _ _ (sym (c .first-wide .ensures .value) ∙ c .in-Some .is)); checked = tt }
 
 pub returns-then-trace-gt-MAX-REQUESTS : need.returns-then-trace-gt-MAX-REQUESTS
 returns-then-trace-gt-MAX-REQUESTS c =
