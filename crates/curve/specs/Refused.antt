@@ -1,9 +1,9 @@
 -- When no report is made, and why. Assumes nothing: these are definitions.
---     too-long n                a trace of n requests is longer than 4,096
---     no-capacities m           the number of capacities m is 0 or above 4,096
---     too-short m len           a row of len numbers is shorter than two for each of the m capacities
---     refusal trace m len       a page of the trace that is not below 2^32, or the first of these that applies, or None
---     Checked trace m len       no report is refused
+--     too-long n                the refusal of a trace of n requests that is longer than 4,096
+--     no-capacities m           the refusal of a number of capacities m that is 0 or above 4,096
+--     too-short m len           the refusal of a row of len numbers that is shorter than two for each of the m capacities
+--     refusal trace m len       that of the first page that is not below 2^32, or the first of these that applies, or None
+--     Checked trace m len       there is none, and the sizes are in bounds
 use mathlib.Core.Bool.{_||_}
 use mathlib.Core.List.{List}
 use mathlib.Core.Path.{_≡_}
