@@ -71,7 +71,7 @@ module _ (page end : ℕ) (entry : List ℕ) (within : end < length entry) where
       ap (λ zs. page ∷ zs) (ext-getD 0 ys (take end entry ++ drop (end + 1) entry) (omega arith) (λ k lt.
       lifted-at ys k (λ le. let e : suc k - 1 ≡ k = omega arith in rw e at (moved (suc k) (omega arith) le)) (same (suc k))))
 
-taken-out :
+pub taken-out :
     (page : ℕ) (pages : List ℕ) (n d : ℕ) → suc n ≤ length pages → d < suc n → d ≡ place page (take (suc n) pages) →
     take n (take d pages ++ drop (suc d) pages) ≡ without page (take (suc n) pages)
 unfolding without place

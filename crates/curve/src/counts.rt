@@ -35,7 +35,7 @@ fn tally(trace: &[u64], hits: &mut [u64])
 }
 
 // With c places the requests that find their page at a place below c are hits: what is left is fetched.
-fn settle(hits: &mut [u64], requests: u64)
+pub fn settle(hits: &mut [u64], requests: u64)
     requires enough { ⌜ sum (now hits) ≤ requests ⌝ }
     ensures after { λ _. ⌜ Left (now (hits .entry)) requests (now (hits .exit)) ⌝ }
 {

@@ -14,4 +14,6 @@ pub use checks::MAX_REQUESTS;
 pub use checks::check;
 pub use checks::report_len;
 pub use counts::count;
+pub use counts::settle;
 pub use entry::curve;
+pub use stack::lift;

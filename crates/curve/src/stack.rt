@@ -65,7 +65,7 @@ impl Stack {
 }
 
 // Moves the first pages one place back, over the one that stands after them, and puts a page in front.
-fn lift(pages: &mut [u64], end: usize, page: u64)
+pub fn lift(pages: &mut [u64], end: usize, page: u64)
     requires within { ⌜ end < length (now pages) ⌝ }
     ensures after { λ _. ⌜ now (pages .exit) ≡ page ∷ (take end (now (pages .entry)) ++ drop (end + 1) (now (pages .entry))) ⌝ }
 {
