@@ -1,5 +1,5 @@
 -- One pass over the trace: what has been counted after the first i requests, and what one request adds.
-use mathlib.Core.Bool.{true, false}
+use mathlib.Core.Bool.{false}
 use mathlib.Core.List.{List, [], _++_}
 use mathlib.Core.Path.{_≡_, refl, _∙_}
 use Prim.Native.Nat.{ℕ, _+_, _-_, _≤_, _<_}
@@ -8,11 +8,12 @@ use lib.ListN.{length, getD, set, take, drop, replicate}
 use Rattle.std.specs.shelf.Lists.{sum}
 use Rattle.std.proofs.shelf.Lists.{length-set, getD-set-same, getD-append-left, take-all, drop-at}
 use Rattle.std.proofs.shelf.Ways.{tells}
-use Rattle.paging.specs.Lists.{has, place}
+use Rattle.paging.specs.Lists.{has}
 use Rattle.paging.specs.Lru.{lru, lru-fetches}
 use Rattle.paging.proofs.Distance.{stack-steps, fetches-le}
 use Rattle.paging.proofs.Tallies.{Tallied, Steps, tallied-none, tallied-all, tallied-found, tallied-absent, counter-le}
 use Rattle.curve.specs.Counts.{Tally, Fetches, Counted}
+use Rattle.curve.specs.Stacked.{Found}
 
 pub pass-none : (hits trace stack : List ℕ) → hits ≡ replicate (length hits) 0 → stack ≡ [] → Tallied lru-fetches hits 0 trace stack
 pass-none hits trace stack none empty = rw (none, empty) (tallied-none lru-fetches (length hits) trace)
@@ -33,9 +34,9 @@ module _
     pass-absent absent =
         tallied-absent lru-fetches hits i trace stack so-far next page lt here steps (λ there. grind (arith, tells))
 
-    module _ (d : ℕ) (there : has stack page ≡ true) (at : d ≡ place page stack) (fits : d < m) where
+    module _ (d : ℕ) (found : Found m page stack d) where
       pub pass-found : Tallied lru-fetches (set hits d (getD hits d 0 + 1)) (i + 1) trace next
-      pass-found = tallied-found lru-fetches hits i trace stack so-far next page lt here steps d at there (omega arith)
+      pass-found = tallied-found lru-fetches hits i trace stack so-far next page lt here steps d (found .at) (found .there) (omega arith)
 
       -- the counter fits where the trace's length does
       pub pass-fits : getD hits d 0 + 1 ≤ length trace

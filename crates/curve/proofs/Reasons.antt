@@ -1,38 +1,19 @@
--- The first reason to make no report: looking for a page that is not below 2^32, and then the sizes.
-use mathlib.Core.Bool.{true, false, cond, _||_}
+-- The first reason to make no report, where those before it do not apply.
+use mathlib.Core.Bool.{true, false, _||_}
 use mathlib.Core.List.{List}
 use mathlib.Core.Logic.{_⊎_}
-use mathlib.Core.Path.{_≡_, refl, _∙_}
-use Prim.Native.Nat.{ℕ, _+_, _*_, _^_, _≤_, _<_}
+use mathlib.Core.Path.{_≡_, refl}
+use Prim.Native.Nat.{ℕ, _*_, _≤_, _<_}
 use native.Mathlib.Omega.{arith}
-use lib.Dec.{eqb, leb, ltb}
-use lib.ListN.{length, getD, drop}
+use lib.Dec.{eqb, ltb}
+use lib.ListN.{length}
 use Rattle.std.specs.declared.option.Option.the-variants.{Some, None}
-use Rattle.std.proofs.shelf.Lists.{at-drop-more, at-drop-all}
 use Rattle.std.proofs.shelf.Tests.{lt-ltb, le-ltb}
 use Rattle.std.proofs.shelf.Ways.{tells}
 use Rattle.lru.specs.declared.refusals.Refusal.{Refusal}
-use Rattle.lru.specs.declared.refusals.Refusal.the-variants.{BadRequest, LongTrace, BadCapacities, ShortReport}
-use Rattle.curve.specs.Refused.{first-wide, refusal}
-
--- the pages before i are below 2^32
-abbrev pub Narrow : List ℕ → ℕ → Type 0
-Narrow trace i = first-wide trace ≡ first-wide (drop i trace)
-
-module _ (trace : List ℕ) (i : ℕ) (narrow : Narrow trace i) (lt : i < length trace) where
-  here : first-wide trace ≡ cond (leb (2 ^ 32) (getD trace i 0)) (Some (BadRequest (getD trace i 0))) (first-wide (drop (i + 1) trace))
-  unfolding first-wide
-  here = narrow ∙ at-drop-more first-wide trace i 0 lt
-
-  pub narrow-ends : 2 ^ 32 ≤ getD trace i 0 → first-wide trace ≡ Some (BadRequest (getD trace i 0))
-  narrow-ends wide = let h = here in grind (arith, tells)
-
-  pub narrow-more : getD trace i 0 < 2 ^ 32 → Narrow trace (i + 1)
-  narrow-more small = let h = here in grind (arith, tells)
-
-pub narrow-all : (trace : List ℕ) (i : ℕ) → Narrow trace i → length trace ≤ i → first-wide trace ≡ None
-unfolding first-wide
-narrow-all trace i narrow end = narrow ∙ at-drop-all first-wide trace i end
+use Rattle.lru.specs.declared.refusals.Refusal.the-variants.{LongTrace, BadCapacities, ShortReport}
+use Rattle.lru.specs.Rows.{first-wide}
+use Rattle.curve.specs.Refused.{refusal}
 
 module _ (trace : List ℕ) (m len : ℕ) where
   pub refused-wide : (e : Refusal) → first-wide trace ≡ Some e → refusal trace m len ≡ Some e

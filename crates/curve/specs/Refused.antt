@@ -1,25 +1,21 @@
 -- When no report is made, and why. Assumes nothing: these are definitions.
---     first-wide trace          the first page of the trace that is not below 2^32, as a refusal, or None
---     too-long n                a trace of n requests is longer than 4,096
---     no-capacities m           the number of capacities m is 0 or above 4,096
---     too-short m len           a row of len numbers is shorter than two for each of the m capacities
---     refusal trace m len       the first of these that applies, or None
---     Checked trace m len       none of them does
-use mathlib.Core.Bool.{cond, _||_}
-use mathlib.Core.List.{List, [], _∷_}
+--     too-long n                the refusal of a trace of n requests that is longer than 4,096
+--     no-capacities m           the refusal of a number of capacities m that is 0 or above 4,096
+--     too-short m len           the refusal of a row of len numbers that is shorter than two for each of the m capacities
+--     refusal trace m len       that of the first page that is not below 2^32, or the first of these that applies, or None
+--     Checked trace m len       there is none, and the sizes are in bounds
+use mathlib.Core.Bool.{_||_}
+use mathlib.Core.List.{List}
 use mathlib.Core.Path.{_≡_}
-use Prim.Native.Nat.{ℕ, _*_, _^_, _≤_}
-use lib.Dec.{eqb, leb, ltb}
+use Prim.Native.Nat.{ℕ, _*_, _≤_}
+use lib.Dec.{eqb, ltb}
 use lib.ListN.{length}
 use Rattle.std.specs.Options.{orOther, whenTrue}
 use Rattle.std.specs.declared.option.Option.{Option}
-use Rattle.std.specs.declared.option.Option.the-variants.{Some, None}
+use Rattle.std.specs.declared.option.Option.the-variants.{None}
 use Rattle.lru.specs.declared.refusals.Refusal.{Refusal}
-use Rattle.lru.specs.declared.refusals.Refusal.the-variants.{BadRequest, LongTrace, BadCapacities, ShortReport}
-
-unfoldable pub first-wide : List ℕ → Option Refusal
-first-wide [] = None
-first-wide (page ∷ trace) = cond (leb (2 ^ 32) page) (Some (BadRequest page)) (first-wide trace)
+use Rattle.lru.specs.declared.refusals.Refusal.the-variants.{LongTrace, BadCapacities, ShortReport}
+use Rattle.lru.specs.Rows.{first-wide}
 
 abbrev pub too-long : ℕ → Option Refusal
 too-long n = whenTrue (ltb 4096 n) (LongTrace n)

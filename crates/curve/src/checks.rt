@@ -5,15 +5,14 @@ ghost use Prim.Native.Nat.{_*_, _≤_, _<_};
 ghost use Rattle.std.specs.Options.{Cases as BySome};
 ghost use Rattle.std.specs.Results.{errPart};
 ghost use Rattle.std.specs.Vec.{made};
-ghost use Rattle.curve.specs.Refused.{first-wide, refusal, Checked};
+ghost use Rattle.curve.specs.Refused.{refusal, Checked};
 use lru::Refusal;
+use lru::first_wide;
 
 // A report is made of so many requests at most ..
 pub const MAX_REQUESTS: usize = 4096;
 // .. and for so many capacities.
 pub const MAX_CAPACITIES: usize = 4096;
-// Pages are below this number.
-const PAGE_LIMIT: u64 = 0x1_0000_0000;
 
 // How many numbers the row of a report for m capacities has, where m is 1 to 4,096: two for each.
 pub fn report_len(m: usize) -> Option<usize>
@@ -25,24 +24,12 @@ pub fn report_len(m: usize) -> Option<usize>
     Some(2 * m)
 }
 
-// The first page that is not below 2^32, as a refusal.
-fn wide(trace: &[u64]) -> Option<Refusal>
-    ensures value { λ r. ⌜ r ≡ first-wide (now (trace .entry)) ⌝ }
-{
-    for page in trace {
-        if *page >= PAGE_LIMIT {
-            return Some(Refusal::BadRequest(*page));
-        }
-    }
-    None
-}
-
 // The first reason not to make a report of a trace for m capacities in a row of `len` numbers.
 pub fn check(trace: &[u64], m: usize, len: usize) -> Result<(), Refusal>
     ensures refused { λ r. ⌜ errPart r ≡ refusal (now (trace .entry)) m len ⌝ }
     ensures checked { λ r. ⌜ made r (λ _. Checked (now (trace .entry)) m len) ⌝ }
 {
-    if let Some(refusal) = wide(trace) {
+    if let Some(refusal) = first_wide(trace) {
         return Err(refusal);
     }
     if trace.len() > MAX_REQUESTS {

@@ -1,9 +1,9 @@
 // How many requests of a trace LRU fetches with 1, 2 .. places, all in one pass.
 ghost use mathlib.Core.Path.{_≡_};
-ghost use Prim.Native.Nat.{ℕ, _+_, _-_, _≤_};
-ghost use lib.ListN.{length, getD, take, replicate};
+ghost use Prim.Native.Nat.{_≤_};
+ghost use lib.ListN.{length, replicate};
 ghost use Rattle.std.specs.shelf.Lists.{sum};
-ghost use Rattle.curve.specs.Counts.{Tally, Fetches};
+ghost use Rattle.curve.specs.Counts.{Tally, Left, Fetches};
 use crate::stack::Stack;
 
 // Writes LRU's fetches from an empty cache with 1, 2 .. places, as many as the row has numbers.
@@ -37,7 +37,7 @@ fn tally(trace: &[u64], hits: &mut [u64])
 // With c places the requests that find their page at a place below c are hits: what is left is fetched.
 pub fn settle(hits: &mut [u64], requests: u64)
     requires enough { ⌜ sum (now hits) ≤ requests ⌝ }
-    ensures after { λ _. ⌜ ((c : ℕ) → 1 ≤ c → c ≤ length (now (hits .exit)) → getD (now (hits .exit)) (c - 1) 0 + sum (take c (now (hits .entry))) ≡ requests) ⌝ }
+    ensures after { λ _. ⌜ Left (now (hits .entry)) requests (now (hits .exit)) ⌝ }
 {
     let mut left = requests;
     for i in 0..hits.len() {

@@ -1,13 +1,13 @@
 // The pages requested last, each once, the latest first. A page's place there is how many different pages were requested since.
 ghost use mathlib.Core.Path.{_≡_};
-ghost use mathlib.Core.Bool.{true, false};
+ghost use mathlib.Core.Bool.{false};
 ghost use mathlib.Core.List.{[], _∷_, _++_};
 ghost use Prim.Native.Nat.{_+_, _≤_, _<_};
 ghost use lib.ListN.{length, take, drop};
 ghost use Rattle.std.specs.Options.{Cases as BySome};
 ghost use Rattle.paging.specs.Lists.{has, place};
 ghost use Rattle.paging.specs.Lru.{lru};
-ghost use Rattle.curve.specs.Stacked.{stacked};
+ghost use Rattle.curve.specs.Stacked.{stacked, Found};
 use crate::checks::MAX_CAPACITIES;
 
 // As many pages as the largest capacity of a report has use for.
@@ -24,7 +24,7 @@ impl Stack {
         ensures len { λ r. ⌜ r .len ≡ 0 ⌝ }
     {
         Stack {
-            pages: [0; 4096],
+            pages: [0; MAX_CAPACITIES],
             len: 0,
         }
     }
@@ -48,7 +48,7 @@ impl Stack {
         requires low { ⌜ 1 ≤ m ⌝ }
         requires high { ⌜ m ≤ 4096 ⌝ }
         requires few { ⌜ now self .len ≤ m ⌝ }
-        ensures finds { λ r. ⌜ BySome r (has (stacked (now (self .entry))) page ≡ false) (λ d. (has (stacked (now (self .entry))) page ≡ true) × (d ≡ place page (stacked (now (self .entry)))) × (d < m)) ⌝ }
+        ensures finds { λ r. ⌜ BySome r (has (stacked (now (self .entry))) page ≡ false) (Found m page (stacked (now (self .entry)))) ⌝ }
         ensures after { λ _. ⌜ stacked (now (self .exit)) ≡ lru m (stacked (now (self .entry))) page ⌝ }
         ensures few { λ _. ⌜ now (self .exit) .len ≤ m ⌝ }
     {

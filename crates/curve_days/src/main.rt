@@ -1,5 +1,5 @@
-// The curve on days worked out by hand, at the edges of what is taken, and on random days beside one simulation for each
-// capacity. One line for each day.
+// The curve on days worked out by hand, at the edges of what is taken, and on random days beside one cache for each capacity. One
+// line for each day.
 mod generator;
 mod shows;
 mod simulation;
@@ -10,9 +10,6 @@ use shows::Day;
 use shows::compare;
 use shows::show;
 use std::io;
-
-// As long as the row of recency's largest capacity.
-const INDEX_LEN: usize = 9 * recency::MAX_CAPACITY + 5;
 
 fn main(rt: LibcRuntime) -> io::Result<()> {
     worked(&rt)?;
@@ -82,35 +79,28 @@ fn bad_in_several_ways(rt: &LibcRuntime) -> io::Result<()> {
 }
 
 fn random(rt: &LibcRuntime) -> io::Result<()> {
-    let mut trace = [0; 4096];
-    let mut row = [0; 8192];
-    let mut index = [0; INDEX_LEN];
-    short_days(rt, &mut trace, &mut row, &mut index)?;
-    let day = Day {
-        requests: 4096,
-        pages: 700,
-        kind: Kind::NearTheLast,
-        m: 4096,
-    };
-    compare(rt, day, &mut trace, &mut row, &mut index)
-}
-
-fn short_days(
-    rt: &LibcRuntime,
-    trace: &mut [u64],
-    row: &mut [u64],
-    index: &mut [u64],
-) -> io::Result<()> {
     for i in 0..12 {
+        let requests = 40 * i + 7;
+        let pages = 9 * i as u64 + 2;
         for kind in [Kind::AnyPage, Kind::NearTheLast, Kind::InTurn] {
-            let day = Day {
-                requests: 40 * i + 7,
-                pages: 9 * i as u64 + 2,
-                kind,
-                m: 120,
-            };
-            compare(rt, day, trace, row, index)?;
+            compare(
+                rt,
+                Day {
+                    requests,
+                    pages,
+                    kind,
+                    m: 120,
+                },
+            )?;
         }
     }
-    Ok(())
+    compare(
+        rt,
+        Day {
+            requests: 4096,
+            pages: 700,
+            kind: Kind::NearTheLast,
+            m: 4096,
+        },
+    )
 }

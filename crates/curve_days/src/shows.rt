@@ -1,7 +1,7 @@
 // One line for each day.
 use crate::generator::Kind;
 use crate::generator::fill;
-use crate::simulation::simulate;
+use crate::simulation::agreed;
 use curve::curve;
 use std::io;
 
@@ -63,39 +63,22 @@ pub struct Day {
     pub m: usize,
 }
 
-// The curve of a random trace beside one simulation for each capacity.
-pub fn compare(
-    rt: &LibcRuntime,
-    day: Day,
-    buffer: &mut [u64],
-    row: &mut [u64],
-    index: &mut [u64],
-) -> io::Result<()> {
-    let requests = buffer.len().min(day.requests);
+// The curve of a random trace beside one cache for each capacity.
+pub fn compare(rt: &LibcRuntime, day: Day) -> io::Result<()> {
+    let mut buffer = [0; 4096];
+    let mut row = [0; 8192];
+    let requests = day.requests.min(4096);
     let pages = day.pages;
     let m = day.m;
     let trace = &mut buffer[0..requests];
     fill(trace, pages, day.kind);
-    let same = match curve(trace, m, row) {
-        Ok(()) => agreed(trace, m, row, index),
+    let same = match curve(trace, m, &mut row) {
+        Ok(()) => agreed(trace, m, &row),
         Err(_) => 0,
     };
     let kind = day.kind.name();
     println!(
         rt,
-        "{requests} requests over {pages} pages, {kind}: {same} of {m} capacities as simulated"
+        "{requests} requests over {pages} pages, {kind}: {same} of {m} capacities as played"
     )
-}
-
-// For how many capacities from 1 on the curve is what a simulation fetches.
-fn agreed(trace: &[u64], m: usize, row: &[u64], index: &mut [u64]) -> usize {
-    for i in 0..m.min(row.len()) {
-        let Some(fetches) = simulate(trace, i + 1, index) else {
-            return i;
-        };
-        if fetches != row[i] {
-            return i;
-        }
-    }
-    m
 }

@@ -1,26 +1,38 @@
-// A cache of one capacity played plainly, request by request.
-ghost use Rattle.recency.specs.Sound.{Sound};
-use recency::Outcome;
-use recency::clear;
-use recency::request;
+// One cache for each capacity, played request by request.
+use lru::play;
+use recency::MAX_CAPACITY;
 
-// How many requests of the trace LRU fetches with k places, or None where there is no row for k.
-pub fn simulate(trace: &[u64], k: usize, index: &mut [u64]) -> Option<u64> {
-    if !clear(index, k) {
-        return None;
-    }
-    Some(fetches(trace, k, index))
+// For how many capacities from 1 on a row has what a cache fetches.
+pub fn agreed(trace: &[u64], m: usize, row: &[u64]) -> usize {
+    let mut cache = [0; 2 + MAX_CAPACITY];
+    let mut index = [0; 9 * MAX_CAPACITY + 5];
+    agreed_with(trace, m, row, &mut cache, &mut index)
 }
 
-fn fetches(trace: &[u64], k: usize, index: &mut [u64]) -> u64
-    requires sound { ⌜ Sound k (now index) ⌝ }
-{
-    let mut n: u64 = 0;
-    for page in trace {
-        let Outcome::Hit = request(index, k, *page) else {
-            n = n.wrapping_add(1);
-            continue;
+fn agreed_with(
+    trace: &[u64],
+    m: usize,
+    row: &[u64],
+    cache: &mut [u64],
+    index: &mut [u64],
+) -> usize {
+    for i in 0..m.min(row.len()) {
+        let Some(fetches) = fetched(trace, i + 1, cache, index) else {
+            return i;
         };
+        if fetches != row[i] {
+            return i;
+        }
     }
-    n
+    m
+}
+
+// How many requests of the trace a cache with k places fetches, beginning empty; None where there is no room for it.
+fn fetched(trace: &[u64], k: usize, cache: &mut [u64], index: &mut [u64]) -> Option<u64> {
+    if cache.len() < 2 {
+        return None;
+    }
+    cache[0] = k as u64;
+    cache[1] = 0;
+    play(cache, index, trace, &mut []).ok()
 }

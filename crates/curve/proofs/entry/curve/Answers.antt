@@ -6,7 +6,9 @@ use Rattle.curve.proofs.entry.curve.Needs as need
 
 pub returns : need.returns
 returns c =
+    let row = c .args .row .now in
+    let half = c .count .last .row in
     record {
       refused = search needs;
-      says = counted-half _ _ (c .args .m - 0) (c .args .row .now) (c .count .last .row) (omega arith) (search needs) (c .count .ensures .fetches);
+      says = counted-half _ _ (c .args .m - 0) row half (omega arith) (search needs) (c .count .ensures .fetches);
     }

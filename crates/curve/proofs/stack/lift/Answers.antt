@@ -5,6 +5,5 @@ use Rattle.curve.proofs.stack.lift.Needs as need
 pub returns : need.returns
 returns c =
     let inv = c .loop-i .inv in
-    record {
-      after = lifted-from (c .args .page) (c .args .end) (c .args .pages .now) (c .pre .within) (c .loop-i .pages) (inv .0) (λ k lt le. inv .2 k (omega arith) le) (inv .3);
-    }
+    let moved = lifted-from (c .args .page) (c .args .end) (c .args .pages .now) (c .pre .within) (c .loop-i .pages) (inv .0) in
+    record { after = moved (λ k lt le. inv .2 k (omega arith) le) (inv .3) }
