@@ -1,0 +1,4 @@
+// Online policies: each keeps a cache without knowing what will be requested. What a policy is to the adversary is the trait `Policy`.
+mod policy;
+
+pub use policy::Policy;
