@@ -17,6 +17,9 @@ unfolding onward
 onward-first step state page [] = refl
 onward-first step state page (x ∷ further) = ap (λ s. step s x) (onward-first step state page further)
 
+pub goes-on : {S : Type 0} (step : S → ℕ → S) (before after : S) (page : ℕ) → after ≡ step before page → (further : List ℕ) → onward step after further ≡ onward step before (further ++ page ∷ [])
+goes-on step before after page e further = ap (λ s. onward step s further) e ∙ onward-first step before page further
+
 -- a policy that is another on every history
 proper-like : (k : ℕ) (rule policy : Policy) → ((history : List ℕ) → policy history ≡ rule history) → Proper k rule → Proper k policy
 proper-like k rule policy same p =

@@ -1,5 +1,8 @@
 // Online policies: each keeps a cache without knowing what will be requested. What a policy is to the adversary is the trait `Policy`.
+mod fifo;
 mod policy;
 mod rows;
 
+pub use fifo::Fifo;
+pub use fifo::FifoPolicy;
 pub use policy::Policy;
