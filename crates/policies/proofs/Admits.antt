@@ -23,7 +23,7 @@ module _ (row : List ℕ) (n page : ℕ) (few : n ≤ length row) where
       grind (arith, tells)
 
   -- the front of the row after the page came in
-  front : (last : ℕ) → last < length row → take (last + 1) (page ∷ removed row last) ≡ page ∷ take last row
+  pub front : (last : ℕ) → last < length row → take (last + 1) (page ∷ removed row last) ≡ page ∷ take last row
   front last lt =
       let one : last + 1 ≡ suc last = omega arith in
       let l = length-take last row in
