@@ -5,3 +5,4 @@ pub mod Leasts
 pub mod Pairs
 pub mod Capped
 pub mod Requests
+pub mod Wholes
