@@ -6,3 +6,4 @@ pub mod Pairs
 pub mod Capped
 pub mod Requests
 pub mod Wholes
+pub mod Opened

@@ -2,6 +2,7 @@
 mod counting;
 mod fifo;
 mod policy;
+mod recent;
 mod rows;
 
 pub use counting::LeastRequested;
@@ -9,3 +10,5 @@ pub use counting::LeastRequestedPolicy;
 pub use fifo::Fifo;
 pub use fifo::FifoPolicy;
 pub use policy::Policy;
+pub use recent::Lru;
+pub use recent::LruPolicy;
