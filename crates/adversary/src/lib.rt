@@ -1,0 +1,6 @@
+// The adversary: requests that beat any online policy, one at a time on a lent row, beside a schedule that knows them.
+mod begins;
+mod challenge;
+mod marks;
+
+pub use challenge::Challenge;
