@@ -1,4 +1,5 @@
 // Where the adversary stands: counts over a lent row.
+ghost use mathlib.Core.Path.{_≡_};
 ghost use Prim.Native.Nat.{_+_, _≤_, _<_};
 
 // A policy with k places is challenged beside a schedule with h. The row holds three lists, each from its own place on: the round's pages
@@ -25,5 +26,6 @@ pub struct Challenge {
     ghost few: { picks < h },
     ghost held: { shown ≤ k },
     ghost older: { listed < next },
+    ghost unseen: { (next ≡ 1 → shown ≡ 0) },
     ghost left: { next ≤ 4294967296 },
 }

@@ -2,5 +2,6 @@
 mod begins;
 mod challenge;
 mod marks;
+mod rules;
 
 pub use challenge::Challenge;
