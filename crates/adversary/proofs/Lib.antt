@@ -1,3 +1,5 @@
 pub mod Marked
 pub mod Odd
 pub mod Broken
+pub mod Chosen
+pub mod Lengths

@@ -1,3 +1,4 @@
 pub mod Places
 pub mod Begins
 pub mod Rules
+pub mod Steps

@@ -1,4 +1,5 @@
 // The adversary: requests that beat any online policy, one at a time on a lent row, beside a schedule that knows them.
+mod aims;
 mod begins;
 mod challenge;
 mod marks;
