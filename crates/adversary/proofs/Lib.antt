@@ -3,3 +3,4 @@ pub mod Odd
 pub mod Broken
 pub mod Chosen
 pub mod Lengths
+pub mod Edited

@@ -3,6 +3,7 @@ mod aims;
 mod begins;
 mod challenge;
 mod marks;
+mod rows;
 mod rules;
 
 pub use challenge::Challenge;
