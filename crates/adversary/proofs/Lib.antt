@@ -4,3 +4,6 @@ pub mod Broken
 pub mod Chosen
 pub mod Lengths
 pub mod Edited
+pub mod Gathered
+pub mod Moved
+pub mod Entered

@@ -2,3 +2,4 @@ pub mod Places
 pub mod Begins
 pub mod Rules
 pub mod Steps
+pub mod Moves

@@ -2,7 +2,9 @@
 mod aims;
 mod begins;
 mod challenge;
+mod gathers;
 mod marks;
+mod moves;
 mod rows;
 mod rules;
 
