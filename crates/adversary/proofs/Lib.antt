@@ -7,3 +7,4 @@ pub mod Edited
 pub mod Gathered
 pub mod Moved
 pub mod Entered
+pub mod Stepped

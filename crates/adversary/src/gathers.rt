@@ -51,7 +51,14 @@ fn add_list(row: &mut [u64], k: usize, h: usize, noted: usize, seen: &mut [u64])
 }
 
 // Notes the last new page and then those of the round's list, where the round is over, and says how many there are then.
-pub(crate) fn gather(row: &mut [u64], k: usize, h: usize, noted: usize, last: u64, seen: &mut [u64]) -> usize
+pub(crate) fn gather(
+    row: &mut [u64],
+    k: usize,
+    h: usize,
+    noted: usize,
+    last: u64,
+    seen: &mut [u64],
+) -> usize
     requires low { ⌜ 1 ≤ k ⌝ }
     requires high { ⌜ k ≤ 4096 ⌝ }
     requires long { ⌜ 3 * k + 1 ≤ length (now row) ⌝ }

@@ -7,5 +7,6 @@ mod marks;
 mod moves;
 mod rows;
 mod rules;
+mod steps;
 
 pub use challenge::Challenge;

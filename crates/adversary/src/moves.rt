@@ -14,7 +14,15 @@ use crate::rows::note;
 
 impl Challenge {
     // The round is over: the row has all its pages and `noted` picked ones, and the schedule's list comes to the front.
-    fn over(self, row: &mut [u64], next: u64, noted: usize, last: u64, shown: usize, seen: &mut [u64]) -> Challenge
+    fn over(
+        self,
+        row: &mut [u64],
+        next: u64,
+        noted: usize,
+        last: u64,
+        shown: usize,
+        seen: &mut [u64],
+    ) -> Challenge
         requires long { ⌜ 3 * self .k + 1 ≤ length (now row) ⌝ }
         requires room { ⌜ 9 * self .k + 5 ≤ length (now seen) ⌝ }
         requires few { ⌜ noted ≤ self .h ⌝ }
@@ -25,7 +33,16 @@ impl Challenge {
     {
         let listed = gather(row, self.k, self.h, noted, next - 1, seen);
         bring(row, self.k, listed);
-        Challenge { k: self.k, h: self.h, next, listed, noted: 0, picks: 0, shown, last }
+        Challenge {
+            k: self.k,
+            h: self.h,
+            next,
+            listed,
+            noted: 0,
+            picks: 0,
+            shown,
+            last,
+        }
     }
 
     // A new page is requested, where the round's list has room for it.
@@ -39,9 +56,19 @@ impl Challenge {
     {
         row[self.listed] = self.next;
         let next = self.next + 1;
-        if self.listed < self.k || self.picks + 1 < self.h {
+        let reached = self.picks + 1;
+        if self.listed < self.k || reached < self.h {
             let listed = self.listed + 1;
-            return Challenge { k: self.k, h: self.h, next, listed, noted: self.noted, picks: self.picks, shown, last: self.next };
+            return Challenge {
+                k: self.k,
+                h: self.h,
+                next,
+                listed,
+                noted: self.noted,
+                picks: self.picks,
+                shown,
+                last: self.next,
+            };
         }
         self.over(row, next, self.noted, self.next, shown, seen)
     }
@@ -57,8 +84,37 @@ impl Challenge {
         let noted = note(row, self.k, self.noted, page);
         if self.picks + 2 < self.h {
             let picks = self.picks + 1;
-            return Challenge { k: self.k, h: self.h, next: self.next, listed: self.listed, noted, picks, shown, last: page };
+            return Challenge {
+                k: self.k,
+                h: self.h,
+                next: self.next,
+                listed: self.listed,
+                noted,
+                picks,
+                shown,
+                last: page,
+            };
         }
         self.over(row, self.next, noted, page, shown, seen)
+    }
+
+    // The request for the page that is aimed at is entered, before which `shown` pages were shown.
+    pub(crate) fn enter(
+        self,
+        row: &mut [u64],
+        page: u64,
+        shown: usize,
+        seen: &mut [u64],
+    ) -> Challenge
+        requires long { ⌜ 3 * self .k + 1 ≤ length (now row) ⌝ }
+        requires room { ⌜ 9 * self .k + 5 ≤ length (now seen) ⌝ }
+        requires new { ⌜ (self .listed ≤ self .k → (page ≡ self .next) × (self .next < 4294967296)) ⌝ }
+        requires shown { ⌜ shown ≤ self .k ⌝ }
+        ensures moved { λ r. ⌜ Moved self (now (row .entry)) page shown r (now (row .exit)) ⌝ }
+    {
+        if self.listed > self.k {
+            return self.with_pick(row, page, shown, seen);
+        }
+        self.with_new(row, shown, seen)
     }
 }
