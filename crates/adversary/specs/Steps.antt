@@ -2,6 +2,8 @@
 --     exhausted k p                       page 2^32 would be needed
 --     refusal k p asked before shown      why there is no next request at position p, or None
 --     refusal-in c row shown              the same for what a challenge and its row stand for
+--     fault-in c row shown                what is shown breaks the rules; this alone is told after the last request
+--     if-long c row e                     e, where the row is long enough for the challenge
 --     Chosen c row shown page             this is the page to request where that is shown, if it keeps the rules
 --     Aimed c row shown page              the same where it keeps them
 --     Stepped c row shown c' row'         that page was requested: where the adversary stands then
@@ -9,13 +11,13 @@ use mathlib.Core.Bool.{cond}
 use mathlib.Core.List.{List, [], _∷_}
 use mathlib.Core.Path.{_≡_}
 use Prim.Native.Nat.{ℕ, _+_, _*_, _^_, _≤_, _<_}
-use lib.Dec.{ltb}
+use lib.Dec.{leb, ltb}
 use lib.ListN.{length, drop}
 use Rattle.std.specs.declared.option.Option.{Option}
 use Rattle.std.specs.declared.option.Option.the-variants.{Some, None}
 use Rattle.paging.specs.Stepwise.{Position, complete, next-request, moved}
 use Rattle.lru.specs.declared.refusals.Refusal.{Refusal}
-use Rattle.lru.specs.declared.refusals.Refusal.the-variants.{BrokenRule, NoPageLeft}
+use Rattle.lru.specs.declared.refusals.Refusal.the-variants.{NoCache, BrokenRule, NoPageLeft}
 use Rattle.adversary.specs.declared.challenge.Challenge.{Challenge}
 use Rattle.adversary.specs.Places.{shown-in, asked-in, position-in}
 use Rattle.adversary.specs.Rules.{broken}
@@ -32,6 +34,12 @@ refusal k p asked before shown = told (broken k asked before shown) (exhausted k
 
 abbrev pub refusal-in : Challenge → List ℕ → List ℕ → Option Refusal
 refusal-in c row shown = refusal (c .k) (position-in c row) (asked-in c) (shown-in c row) shown
+
+abbrev pub fault-in : Challenge → List ℕ → List ℕ → Option Refusal
+fault-in c row shown = told (broken (c .k) (asked-in c) (shown-in c row) shown) None
+
+abbrev pub if-long : Challenge → List ℕ → Option Refusal → Option Refusal
+if-long c row e = cond (leb (3 * c .k + 1) (length row)) e (Some NoCache)
 
 pub record Chosen (c : Challenge) (row shown : List ℕ) (page : ℕ) : Type 0 where
   pub none : exhausted (c .k) (position-in c row) ≡ None
