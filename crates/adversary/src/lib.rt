@@ -2,6 +2,7 @@
 mod aims;
 mod begins;
 mod challenge;
+mod ends;
 mod gathers;
 mod marks;
 mod moves;

@@ -13,11 +13,11 @@ use lru::Refusal;
 use recency::MAX_CAPACITY;
 
 // What a small policy is tested with, and any other. The larger two cost more to clear than a small policy to test.
-const SMALL: usize = 64;
+pub(crate) const SMALL: usize = 64;
 
-const SMALL_INDEX: usize = 9 * SMALL + 5;
+pub(crate) const SMALL_INDEX: usize = 9 * SMALL + 5;
 
-const LARGE_INDEX: usize = 9 * MAX_CAPACITY + 5;
+pub(crate) const LARGE_INDEX: usize = 9 * MAX_CAPACITY + 5;
 
 impl Challenge {
     // A step with two indexes lent.
