@@ -3,3 +3,4 @@ pub mod Begins
 pub mod Rules
 pub mod Steps
 pub mod Moves
+pub mod Runs
