@@ -1,0 +1,10 @@
+pub mod Marked
+pub mod Odd
+pub mod Broken
+pub mod Chosen
+pub mod Lengths
+pub mod Edited
+pub mod Gathered
+pub mod Moved
+pub mod Entered
+pub mod Stepped

@@ -1,0 +1,15 @@
+// The adversary: requests that beat any online policy, one at a time on a lent row, beside a schedule that knows them.
+mod aims;
+mod asks;
+mod begins;
+mod challenge;
+mod ends;
+mod gathers;
+mod marks;
+mod moves;
+mod rows;
+mod rules;
+mod steps;
+
+pub use asks::ask;
+pub use challenge::Challenge;
