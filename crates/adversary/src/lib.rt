@@ -10,6 +10,7 @@ mod moves;
 mod rows;
 mod rules;
 mod steps;
+mod tells;
 
 pub use asks::ask;
 pub use challenge::Challenge;
