@@ -5,11 +5,11 @@ ghost use Rattle.trace.specs.Settings.{settings-of};
 #[derive(Clone, Copy)]
 pub struct Settings {
     // how many places the policy has
-    pub capacity: usize,
+    pub capacity: u16,
     // how many places the schedule beside it has
-    pub places: usize,
+    pub places: u16,
     // how many rounds are played
-    pub rounds: usize,
+    pub rounds: u16,
     // the policy's number
     pub policy: u8,
 }
@@ -22,9 +22,9 @@ pub fn read_settings(bytes: &[u8]) -> Option<Settings>
         return None;
     };
     Some(Settings {
-        capacity: *a as usize + 256 * *b as usize,
-        places: *c as usize + 256 * *d as usize,
-        rounds: *e as usize + 256 * *f as usize,
+        capacity: *a as u16 + 256 * *b as u16,
+        places: *c as u16 + 256 * *d as u16,
+        rounds: *e as u16 + 256 * *f as u16,
         policy: *policy,
     })
 }
