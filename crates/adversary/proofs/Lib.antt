@@ -8,3 +8,5 @@ pub mod Gathered
 pub mod Moved
 pub mod Entered
 pub mod Stepped
+pub mod Keeping
+pub mod Against

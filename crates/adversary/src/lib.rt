@@ -3,13 +3,17 @@ mod aims;
 mod asks;
 mod begins;
 mod challenge;
+mod counts;
 mod ends;
 mod gathers;
 mod marks;
 mod moves;
 mod rows;
 mod rules;
+mod runs;
 mod steps;
 
 pub use asks::ask;
 pub use challenge::Challenge;
+pub use counts::Counts;
+pub use counts::Stopped;

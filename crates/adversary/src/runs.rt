@@ -1,0 +1,37 @@
+// A whole run against a policy, whatever it does: the rules are tested while it runs.
+ghost use mathlib.Core.Path.{_≡_};
+ghost use mathlib.Core.List.{[], _∷_};
+ghost use Prim.Native.Nat.{_+_, _*_, _≤_, _<_};
+ghost use lib.ListN.{length, drop};
+ghost use Rattle.std.specs.Vec.{made, refused};
+ghost use Rattle.std.specs.declared.option.Option.the-variants.{Some};
+ghost use Rattle.adversary.specs.Runs.{played, Led, Against, Halted};
+use crate::asks::ask;
+use crate::challenge::Challenge;
+use crate::counts::Stopped;
+use lru::Refusal;
+use policies::Policy;
+
+// Asks for as many pages as are wanted, one after the other, from the beginning on.
+fn ask_all<P: Policy>(
+    keeper: &mut P,
+    challenge: Challenge,
+    row: &mut [u64],
+    requests: u64,
+) -> Result<Challenge, Stopped>
+    requires begun { ⌜ Against (challenge .k) (challenge .h) (policy (now keeper)) 0 challenge (now row) ⌝ }
+    ensures against { λ r. ⌜ made r (λ c. Against (challenge .k) (challenge .h) (policy (now (keeper .entry))) requests c (now (row .exit))) ⌝ }
+    ensures led { λ r. ⌜ made r (λ _. Led (policy (now (keeper .entry))) (played (challenge .k) (challenge .h) (policy (now (keeper .entry))) requests .history) (policy (now (keeper .exit)))) ⌝ }
+    ensures far { λ r. ⌜ refused r (λ s. s .after < requests) ⌝ }
+    ensures halted { λ r. ⌜ refused r (λ s. Halted (challenge .k) (challenge .h) (policy (now (keeper .entry))) (s .after) (s .refusal) (now (row .exit)) (policy (now (keeper .exit)))) ⌝ }
+    ensures beyond { λ _. ⌜ drop (3 * challenge .k + 1) (now (row .exit)) ≡ drop (3 * challenge .k + 1) (now (row .entry)) ⌝ }
+{
+    let mut challenge = challenge;
+    for n in 0..requests {
+        match ask(keeper, challenge, row) {
+            Ok(next) => challenge = next,
+            Err(refusal) => return Err(Stopped { after: n, refusal }),
+        }
+    }
+    Ok(challenge)
+}
