@@ -10,3 +10,4 @@ pub mod Entered
 pub mod Stepped
 pub mod Keeping
 pub mod Against
+pub mod Wholes

@@ -1,13 +1,15 @@
 // A whole run against a policy, whatever it does: the rules are tested while it runs.
 ghost use mathlib.Core.Path.{_≡_};
 ghost use mathlib.Core.List.{[], _∷_};
-ghost use Prim.Native.Nat.{_+_, _*_, _≤_, _<_};
+ghost use Prim.Native.Nat.{suc, _+_, _*_, _-_, _^_, _≤_, _<_};
 ghost use lib.ListN.{length, drop};
 ghost use Rattle.std.specs.Vec.{made, refused};
 ghost use Rattle.std.specs.declared.option.Option.the-variants.{Some};
 ghost use Rattle.adversary.specs.Runs.{played, Led, Against, Halted};
+ghost use Rattle.adversary.specs.Whole.{Ran, Broke};
 use crate::asks::ask;
 use crate::challenge::Challenge;
+use crate::counts::Counts;
 use crate::counts::Stopped;
 use lru::Refusal;
 use policies::Policy;
@@ -34,4 +36,33 @@ fn ask_all<P: Policy>(
         }
     }
     Ok(challenge)
+}
+
+// The opening and the rounds from the beginning on, and the test after the last request.
+fn run_on<P: Policy>(
+    keeper: &mut P,
+    challenge: Challenge,
+    rounds: u32,
+    row: &mut [u64],
+) -> Result<Counts, Stopped>
+    requires begun { ⌜ Against (challenge .k) (challenge .h) (policy (now keeper)) 0 challenge (now row) ⌝ }
+    ensures ran { λ r. ⌜ made r (λ s. Ran (challenge .k) (challenge .h) (policy (now (keeper .entry))) rounds s (now (row .exit)) (policy (now (keeper .exit)))) ⌝ }
+    ensures broke { λ r. ⌜ refused r (λ s. Broke (challenge .k) (challenge .h) (policy (now (keeper .entry))) rounds s (now (row .exit)) (policy (now (keeper .exit)))) ⌝ }
+    ensures beyond { λ _. ⌜ drop (3 * challenge .k + 1) (now (row .exit)) ≡ drop (3 * challenge .k + 1) (now (row .entry)) ⌝ }
+{
+    let requests = challenge.h as u64 + rounds as u64 * challenge.k as u64;
+    let end = ask_all(keeper, challenge, row, requests)?;
+    if let Err(refusal) = end.accept(row, keeper.shown()) {
+        return Err(Stopped {
+            after: requests,
+            refusal,
+        });
+    }
+    let news = challenge.k + 1 - challenge.h;
+    let beside = challenge.h as u64 + rounds as u64 * news as u64;
+    Ok(Counts {
+        requests,
+        fetches: requests,
+        beside,
+    })
 }
