@@ -11,3 +11,5 @@ pub mod Stepped
 pub mod Keeping
 pub mod Against
 pub mod Wholes
+pub mod Never
+pub mod Begun

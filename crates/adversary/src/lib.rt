@@ -17,3 +17,4 @@ pub use asks::ask;
 pub use challenge::Challenge;
 pub use counts::Counts;
 pub use counts::Stopped;
+pub use runs::run;

@@ -3,8 +3,13 @@ ghost use mathlib.Core.Path.{_≡_};
 ghost use mathlib.Core.List.{[], _∷_};
 ghost use Prim.Native.Nat.{suc, _+_, _*_, _-_, _^_, _≤_, _<_};
 ghost use lib.ListN.{length, drop};
+ghost use mathlib.Core.Bool.{true};
+ghost use Rattle.std.specs.Options.{Cases as BySome};
+ghost use Rattle.std.specs.Results.{isOk};
 ghost use Rattle.std.specs.Vec.{made, refused};
-ghost use Rattle.std.specs.declared.option.Option.the-variants.{Some};
+ghost use Rattle.std.specs.declared.option.Option.the-variants.{Some, None};
+ghost use Rattle.paging.specs.Rules.{Proper};
+ghost use Rattle.adversary.specs.Begins.{unfit};
 ghost use Rattle.adversary.specs.Runs.{played, Led, Against, Halted};
 ghost use Rattle.adversary.specs.Whole.{Ran, Broke};
 use crate::asks::ask;
@@ -65,4 +70,25 @@ fn run_on<P: Policy>(
         fetches: requests,
         beside,
     })
+}
+
+// Challenges a policy with k places beside a schedule with h: the opening and as many rounds. Nothing is asked of the policy, and the row
+// may hold anything. Where k is no capacity, h is 0 or above k, or the row is too short for k, nothing is changed. A policy that keeps the
+// rules is counted out as long as the pages last.
+pub fn run<P: Policy>(
+    keeper: &mut P,
+    k: usize,
+    h: usize,
+    rounds: u32,
+    row: &mut [u64],
+) -> Result<Counts, Stopped>
+    ensures ran { λ r. ⌜ made r (λ s. Ran k h (policy (now (keeper .entry))) rounds s (now (row .exit)) (policy (now (keeper .exit)))) ⌝ }
+    ensures refused { λ r. ⌜ refused r (λ s. BySome (unfit k h (length (now (row .entry)))) (Broke k h (policy (now (keeper .entry))) rounds s (now (row .exit)) (policy (now (keeper .exit)))) (λ e. (s .refusal ≡ e) × (s .after ≡ 0) × (now (row .exit) ≡ now (row .entry)) × (now (keeper .exit) ≡ now (keeper .entry)))) ⌝ }
+    ensures beyond { λ _. ⌜ drop (3 * k + 1) (now (row .exit)) ≡ drop (3 * k + 1) (now (row .entry)) ⌝ }
+    ensures proper { λ r. ⌜ (unfit k h (length (now (row .entry))) ≡ None → Proper k (policy (now (keeper .entry))) → h + rounds * (suc k - h) < 2 ^ 32 → isOk r ≡ true) ⌝ }
+{
+    match Challenge::begin(k, h, row) {
+        Ok(challenge) => run_on(keeper, challenge, rounds, row),
+        Err(refusal) => Err(Stopped { after: 0, refusal }),
+    }
 }
