@@ -13,3 +13,5 @@ pub mod Against
 pub mod Wholes
 pub mod Never
 pub mod Begun
+pub mod Written
+pub mod Caches

@@ -5,3 +5,4 @@ pub mod Steps
 pub mod Moves
 pub mod Runs
 pub mod Whole
+pub mod Beside

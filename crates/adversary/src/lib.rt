@@ -11,6 +11,7 @@ mod moves;
 mod rows;
 mod rules;
 mod runs;
+mod schedule;
 mod steps;
 
 pub use asks::ask;
