@@ -9,6 +9,7 @@ use lib.Dec.{eqb, ltb}
 use lib.ListN.{length, getD, take, replicate}
 use Rattle.std.proofs.shelf.Lists.{getD-append-left, getD-append-right, getD-replicate, length-append, length-replicate}
 use Rattle.std.proofs.shelf.Tests.{cases-lt, eq-eqb, ne-eqb, lt-ltb, le-ltb}
+use Rattle.std.proofs.shelf.Ways.{tells}
 use Rattle.paging.specs.Adversary.{fresh, Round, opened, new-pages, last-new, next-list, next-round, rounds, held, served, schedule-from, beside}
 use Rattle.paging.specs.Policies.{Policy}
 use Rattle.paging.specs.Stepwise.{Play, Position, begins}
@@ -124,3 +125,51 @@ module _ (k h : ℕ) (policy : Policy) where
         let a = length-served (fresh h 1) (fresh h 1) in
         let b = length-fresh h 1 in
         getD-append-left (served (fresh h 1) (fresh h 1)) [] [] i (omega arith) ∙ served-at (fresh h 1) h 1 i lt
+
+-- the challenge at the ends of rounds
+rounds-more : (k h : ℕ) (policy : Policy) (m : ℕ) (r : Round) → rounds k h policy (suc m) r ≡ next-round k h policy (rounds k h policy m r)
+unfolding rounds
+rounds-more k h policy zero r = refl
+rounds-more k h policy (suc m) r = rounds-more k h policy m (next-round k h policy r)
+
+module _ (k h : ℕ) (policy : Policy) (c : Challenge) (row : List ℕ) (low : 0 < h) (le : h ≤ k) where
+  opening-read : Against k h policy h c row → (c .next ≡ suc h) × (listed-in c row ≡ fresh h 1)
+  unfolding begins opened rounds
+  opening-read a =
+      let e = plays-exactly k h 0 policy low le .0 in
+      let z : h + 0 * k ≡ h = omega arith in
+      let at = a .position ∙ ap (λ (x : Play). x .position) (rw z at e) in
+      (ap (λ (p : Position). p .next) at, ap (λ (p : Position). p .pages) at)
+
+  round-read :
+      (m : ℕ) → Against k h policy (h + suc m * k) c row →
+      (c .next ≡ suc (rounds k h policy m (opened h) .next + (k - h))) × (listed-in c row ≡ next-list k h policy (rounds k h policy m (opened h)))
+  unfolding begins next-round last-new
+  round-read m a =
+      let e = plays-exactly k h (suc m) policy low le .0 in
+      let at = a .position ∙ ap (λ (x : Play). x .position) (e ∙ ap begins (rounds-more k h policy m (opened h))) in
+      (ap (λ (p : Position). p .next) at, ap (λ (p : Position). p .pages) at)
+
+  new-opening : (i : ℕ) → c .k ≡ k → c .h ≡ h → c .next ≡ suc h → i < h → new-at c i ≡ 1 + i
+  new-opening i k-is h-is next lt = grind (arith, tells)
+
+  new-round :
+      (i n : ℕ) → c .k ≡ k → c .h ≡ h → h < n → c .next ≡ suc (n + (k - h)) → new-at c i ≡ n + cond (ltb i (suc (k - h))) i (k - h)
+  new-round i n k-is h-is more next = grind (arith, tells)
+
+pub reads-schedule : Reads-schedule
+reads-schedule k h m policy c row i low le = (opening, round)
+  where
+    opening : Against k h policy h c row → i < h → cache-in c row i ≡ getD (beside k h policy 0) i []
+    opening a lt =
+        let r = opening-read k h policy c row low le a in
+        ap (held (listed-in c row)) (new-opening k h policy c row low le i (a .k-is) (a .h-is) (r .0) lt)
+        ∙ ap (λ (xs : List ℕ). held xs (1 + i)) (r .1) ∙ sym (beside-opening k h policy low le i lt)
+
+    round : Against k h policy (h + suc m * k) c row → i < k → cache-in c row i ≡ getD (beside k h policy (suc m)) (h + m * k + i) []
+    round a lt =
+        let r = round-read k h policy c row low le m a in
+        let x = rounds k h policy m (opened h) in
+        let n = plays-exactly k h m policy low le .2 in
+        ap (held (listed-in c row)) (new-round k h policy c row low le i (x .next) (a .k-is) (a .h-is) (omega arith) (r .0))
+        ∙ ap (λ (xs : List ℕ). held xs (x .next + cond (ltb i (suc (k - h))) i (k - h))) (r .1) ∙ sym (beside-at k h policy low le m i lt)

@@ -19,3 +19,4 @@ pub use challenge::Challenge;
 pub use counts::Counts;
 pub use counts::Stopped;
 pub use runs::run;
+pub use schedule::reads_schedule_stands;

@@ -80,3 +80,10 @@ impl Challenge {
         Some(write_held(&row[0..listed], self.new_at(i), out))
     }
 }
+
+// At the end of the opening, and of each round, what is read are the caches of the schedule that the counts are of.
+pub fn reads_schedule_stands() -> u8
+    ensures { λ _. ⌜ Reads-schedule ⌝ }
+{
+    0
+}
