@@ -13,6 +13,7 @@ mod rules;
 mod runs;
 mod schedule;
 mod steps;
+mod tells;
 
 pub use asks::ask;
 pub use challenge::Challenge;
