@@ -4,3 +4,5 @@ pub mod Rules
 pub mod Steps
 pub mod Moves
 pub mod Runs
+pub mod Whole
+pub mod Beside
