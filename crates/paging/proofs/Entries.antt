@@ -34,12 +34,12 @@ often (e ∷ es) = leb 2 (e .count) && often es
 abbrev new : ℕ → Entry
 new page = record { page = page; count = 1 }
 
-others-absent : (page : ℕ) (es : List Entry) → has (pages-in es) page ≡ false → others page es ≡ es
+pub others-absent : (page : ℕ) (es : List Entry) → has (pages-in es) page ≡ false → others page es ≡ es
 unfolding others pages-in has
 others-absent page [] absent = refl
 others-absent page (e ∷ es) absent = let i = others-absent page es in grind (arith, tells)
 
-count-absent : (page : ℕ) (es : List Entry) → has (pages-in es) page ≡ false → count-of es page ≡ 0
+pub count-absent : (page : ℕ) (es : List Entry) → has (pages-in es) page ≡ false → count-of es page ≡ 0
 unfolding count-of pages-in has
 count-absent page [] absent = refl
 count-absent page (e ∷ es) absent = let i = count-absent page es in grind (arith, tells)

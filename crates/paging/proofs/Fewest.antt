@@ -13,7 +13,7 @@ use Rattle.paging.specs.Rules.{Proper, Rules-proper}
 use Rattle.paging.proofs.Caches.{Cached, Goes, proper, lru-proper, fifo-proper, last-requested-proper, direct-mapped-proper}
 use Rattle.paging.proofs.Lists.{Within}
 
-length-pages : (es : List Entry) → length (pages-in es) ≡ length es
+pub length-pages : (es : List Entry) → length (pages-in es) ≡ length es
 unfolding pages-in
 length-pages [] = refl
 length-pages (e ∷ es) = omega (arith, length-pages es)
@@ -43,7 +43,7 @@ module _ (page : ℕ) where
 
 -- the one that goes taken out
 
-spared-within : (c : ℕ) (es : List Entry) → Within (pages-in (spared c es)) (pages-in es)
+pub spared-within : (c : ℕ) (es : List Entry) → Within (pages-in (spared c es)) (pages-in es)
 unfolding spared pages-in has
 spared-within c [] x there = there
 spared-within c (e ∷ es) x there = let i = spared-within c es x in grind (arith, tells)
@@ -58,7 +58,7 @@ unfolding spared counted
 spared-length c [] here = grind (arith, tells)
 spared-length c (e ∷ es) here = let i = spared-length c es in grind (arith, tells)
 
-fewest-counted : (e : Entry) (es : List Entry) → counted (fewest (e ∷ es)) (e ∷ es) ≡ true
+pub fewest-counted : (e : Entry) (es : List Entry) → counted (fewest (e ∷ es)) (e ∷ es) ≡ true
 unfolding fewest counted
 fewest-counted e [] = grind (arith, tells)
 fewest-counted e (f ∷ es) =
@@ -89,33 +89,32 @@ front-goes k before page count stay apart within fits =
       adds = λ x there. let a = others-within page stay x in let b = within x in grind (arith, tells);
     }
 
-least-goes :
-    (k page : ℕ) (history : List ℕ) → 0 < k → Cached k (least-requested-goes k history) →
-    Goes k (least-requested-goes k history) page (least-requested-goes k (page ∷ history))
-unfolding least-requested-goes entries
-least-goes k page history pos c = go (has (pages-in (entries k history)) page || ltb (length (entries k history)) k) refl
+-- the least requested goes, whatever the count that the page requested gets
+pub least-goes :
+    (k : ℕ) (es : List Entry) (page count : ℕ) → 0 < k → Cached k (pages-in es) →
+    Goes k (pages-in es) page
+    (pages-in
+    (record { page = page; count = count } ∷ others page (cond (has (pages-in es) page || ltb (length es) k) es (spared (fewest es) es))))
+least-goes k es page count pos c = go (has (pages-in es) page || ltb (length es) k) refl
   where
     go :
-        (t : Bool) → (has (pages-in (entries k history)) page || ltb (length (entries k history)) k) ≡ t →
-        Goes k (pages-in (entries k history)) page
-        (pages-in
-        (record { page = page; count = suc (count-of (entries k history) page) }
-        ∷ others page (cond t (entries k history) (spared (fewest (entries k history)) (entries k history)))))
+        (t : Bool) → (has (pages-in es) page || ltb (length es) k) ≡ t →
+        Goes k (pages-in es) page (pages-in (record { page = page; count = count } ∷ others page (cond t es (spared (fewest es) es))))
     go true e =
-        let es = entries k history in
         let f = c .fits in
         let l = length-pages es in
-        front-goes k es page _ es (c .apart) (λ x there. there) (grind (arith, tells))
+        front-goes k es page count es (c .apart) (λ x there. there) (grind (arith, tells))
     go false e =
-        let es = entries k history in
         let f = c .fits in
         let l = length-pages es in
         let r = spared-room es k pos (omega arith) in
-        front-goes k es page _ (spared (fewest es) es) (spared-apart (fewest es) es (c .apart)) (spared-within (fewest es) es) (grind (arith, tells))
+        front-goes k es page count (spared (fewest es) es) (spared-apart (fewest es) es (c .apart)) (spared-within (fewest es) es) (grind (arith, tells))
 
 least-requested-proper : (k : ℕ) → 0 < k → Proper k (least-requested-goes k)
 unfolding least-requested-goes entries pages-in
-least-requested-proper k pos = proper k (least-requested-goes k) refl (λ page history c. least-goes k page history pos c)
+least-requested-proper k pos =
+    proper k (least-requested-goes k) refl
+    (λ page history c. least-goes k (entries k history) page (suc (count-of (entries k history) page)) pos c)
 
 pub rules-proper : Rules-proper
 rules-proper k pos =

@@ -1,3 +1,5 @@
 pub mod Headers
 pub mod Lines
 pub mod Requests
+pub mod Settings
+pub mod Totals
