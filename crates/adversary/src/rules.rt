@@ -52,10 +52,11 @@ fn fault_first(shown: &[u64], k: usize, seen: &mut [u64]) -> Option<u64>
     ensures seen { λ r. ⌜ (r ≡ None → Marks k (now (seen .exit)) (now (shown .entry))) ⌝ }
 {
     let _ = recency::clear(seen, k);
-    if shown.len() > k {
-        return Some(shown.len() as u64);
+    let n = shown.len();
+    if n > k {
+        return Some(n as u64);
     }
-    if shown.len() > 0 {
+    if n > 0 {
         return Some(0);
     }
     None

@@ -11,12 +11,12 @@ use Rattle.adversary.proofs.Marked.{marks-none}
 use Rattle.adversary.proofs.Odd.{never-none}
 use Rattle.adversary.proofs.rules.fault_first.Needs as need
 
-pub returns-then-shown-k : need.returns-then-shown-k
-returns-then-shown-k c =
+pub returns-then-n-k : need.returns-then-n-k
+returns-then-n-k c =
     record { value = sym (broken-over (c .args .k) [] [] (c .args .shown .now) (omega arith)); seen = never-none (length (c .args .shown .now)) }
 
-pub returns-then-shown-gt0 : need.returns-then-shown-gt0
-returns-then-shown-gt0 c =
+pub returns-then-n-gt0 : need.returns-then-n-gt0
+returns-then-n-gt0 c =
     record { value = sym (broken-unasked (c .args .k) (c .args .shown .now) (omega arith) (omega arith)); seen = never-none 0 }
 
 pub returns : need.returns
