@@ -5,18 +5,14 @@ ghost use Prim.Native.Nat.{_%_, _≤_};
 ghost use lib.ListN.{length, take};
 ghost use Rattle.std.specs.Of.String.{string-bytes};
 ghost use Rattle.std.specs.Results.{Cases, isOk};
-ghost use Rattle.recency.specs.Row.{pages};
 ghost use Rattle.trace.specs.Requests.{requests-in, left-over};
-ghost use Rattle.play.specs.Played.{Ready, lines-for, cache-at-end};
+ghost use Rattle.lru.specs.Rows.{capacity, cached};
+ghost use Rattle.day.specs.Said.{Ready, lines-for, cache-at-end};
 use crate::faults::Fault;
-use crate::requests::serve_bytes;
 use std::io;
 use std::io::ErrorKind;
 use std::io::Read;
 use std::io::Write;
-
-// How many bytes a piece has at most: what a pipe holds.
-pub(crate) const PIECE: usize = 65536;
 
 // One read, made again where a signal interrupts it.
 fn read_some<R: Read>(input: &mut R, buf: &mut [u8]) -> Result<usize, Fault>
@@ -66,19 +62,20 @@ fn keep_rest(buf: &mut [u8], n: usize) -> usize
 // Serves the whole requests of a piece, and writes their lines, which the text then holds.
 fn play_piece<W: Write>(
     out: &mut W,
-    row: &mut [u64],
-    k: usize,
+    cache: &mut [u64],
+    index: &mut [u64],
     bytes: &[u8],
     text: &mut String,
 ) -> Result<(), Fault>
-    requires ready { ⌜ Ready k (now row) ⌝ }
+    requires ready { ⌜ Ready (now cache) (length (now index)) ⌝ }
     requires short { ⌜ length (now bytes) ≤ 65536 ⌝ }
-    ensures ready { λ _. ⌜ Ready k (now (row .exit)) ⌝ }
-    ensures lines { λ r. ⌜ (isOk r ≡ true → string-bytes (now (text .exit)) ≡ lines-for k (pages (now (row .entry))) (requests-in (now (bytes .entry)))) ⌝ }
-    ensures after { λ r. ⌜ (isOk r ≡ true → pages (now (row .exit)) ≡ cache-at-end k (pages (now (row .entry))) (requests-in (now (bytes .entry)))) ⌝ }
+    ensures ready { λ _. ⌜ Ready (now (cache .exit)) (length (now (index .exit))) ⌝ }
+    ensures capacity { λ _. ⌜ capacity (now (cache .exit)) ≡ capacity (now (cache .entry)) ⌝ }
+    ensures after { λ _. ⌜ cached (now (cache .exit)) ≡ cache-at-end (capacity (now (cache .entry))) (cached (now (cache .entry))) (requests-in (now (bytes .entry))) ⌝ }
+    ensures lines { λ r. ⌜ (isOk r ≡ true → string-bytes (now (text .exit)) ≡ lines-for (capacity (now (cache .entry))) (cached (now (cache .entry))) (requests-in (now (bytes .entry)))) ⌝ }
 {
     text.clear();
-    if serve_bytes(row, k, bytes, text).is_err() {
+    if day::serve(cache, index, bytes, text).is_err() {
         return Err(Fault::Memory);
     }
     match out.write_all(text.as_bytes()) {
@@ -91,12 +88,12 @@ fn play_piece<W: Write>(
 pub(crate) fn play_all<R: Read, W: Write>(
     input: &mut R,
     out: &mut W,
-    row: &mut [u64],
-    k: usize,
+    cache: &mut [u64],
+    index: &mut [u64],
     buf: &mut [u8],
     text: &mut String,
 ) -> Result<(), Fault>
-    requires ready { ⌜ Ready k (now row) ⌝ }
+    requires ready { ⌜ Ready (now cache) (length (now index)) ⌝ }
     requires room { ⌜ length (now buf) ≡ 65536 ⌝ }
 {
     let mut held = 0;
@@ -107,7 +104,7 @@ pub(crate) fn play_all<R: Read, W: Write>(
             break;
         }
         let filled = held + n;
-        play_piece(out, row, k, &buf[0..filled], text)?;
+        play_piece(out, cache, index, &buf[0..filled], text)?;
         served = served.saturating_add(filled as u64 / 4);
         held = keep_rest(buf, filled);
     }

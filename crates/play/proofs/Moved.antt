@@ -1,21 +1,15 @@
--- The bytes of a piece. Assumes nothing.
---     all-decoded     a row with room for every request has them all in front
-use mathlib.Core.Path.{_≡_, refl, sym, ap, _∙_}
+-- What a piece leaves over after its last whole request, moved to the front. Assumes nothing.
+--     moved-front     one byte more stands in front
+--     moved-rest      and those behind it have not changed
+--     rest-moved      all that were to move are what is left over
+use mathlib.Core.Path.{_≡_, sym, ap, _∙_}
 use mathlib.Core.List.{List, [], _∷_, _++_}
-use Prim.Native.Nat.{ℕ, _+_, _-_, _/_, _%_, _≤_, _<_, min}
+use Prim.Native.Nat.{ℕ, _+_, _-_, _%_, _≤_, _<_}
 use native.Mathlib.Omega.{arith}
 use lib.ListN.{length, getD, set, take, drop, length-drop}
-use Rattle.std.proofs.shelf.Lists.{take-at, take-all, length-take-le, getD-drop, take-more-set, take-more, drop-set-lt, drop-drop, drop-take}
-use Rattle.trace.specs.Requests.{requests-in, left-over}
-use Rattle.trace.proofs.Groups.{length-requests, left-over-is}
-
-pub all-decoded : (bs out row : List ℕ) (r : ℕ) → r ≡ min (length bs / 4) (length out) → row ≡ take r (requests-in bs) ++ drop r out → length bs / 4 ≤ length out → take (r - 0) row ≡ requests-in bs
-all-decoded bs out row r e f room =
-    let n : length (requests-in bs) ≡ length bs / 4 = length-requests bs in
-    let same : r - 0 ≡ r = omega arith in
-    let short : r ≤ length (requests-in bs) = omega arith in
-    let long : length (requests-in bs) ≤ r = omega arith in
-    rw (same, f) (take-at (take r (requests-in bs)) (drop r out) r (length-take-le r (requests-in bs) short) ∙ take-all r (requests-in bs) long)
+use Rattle.std.proofs.shelf.Lists.{length-take-le, getD-drop, take-more-set, take-more, drop-set-lt, drop-drop, drop-take}
+use Rattle.trace.specs.Requests.{left-over}
+use Rattle.trace.proofs.Groups.{left-over-is}
 
 -- one byte more is moved from m + i to i: v stood at m + i, and from i on nothing had changed
 module _ (was now : List ℕ) (m i v : ℕ) (same : length now ≡ length was) (within : m + i < length was) (rest : drop i now ≡ drop i was) (read : v ≡ getD now (m + i) 0) where

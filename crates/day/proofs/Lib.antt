@@ -1,0 +1,4 @@
+pub mod Turned
+pub mod Lines
+pub mod Decoded
+pub mod Examples
