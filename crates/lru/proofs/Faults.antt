@@ -1,11 +1,11 @@
 -- When a cache row is one: what the search for a bad page shows, and back.
-use mathlib.Core.Path.{_≡_, refl, ap, sym, _∙_}
-use mathlib.Core.Bool.{Bool, true, false, cond, not, _&&_, _||_}
+use mathlib.Core.Path.{_≡_, refl, ap}
+use mathlib.Core.Bool.{Bool, true, false, cond, _||_}
 use mathlib.Core.List.{List, [], _∷_}
 use native.Mathlib.Omega.{arith}
-use Prim.Native.Nat.{ℕ, suc, _+_, _^_, _≤_, _<_}
-use lib.Dec.{leb, eqb}
-use lib.ListN.{length, getD}
+use Prim.Native.Nat.{ℕ, suc, _^_, _≤_, _<_}
+use lib.Dec.{leb}
+use lib.ListN.{getD}
 use Rattle.std.specs.declared.option.Option.{Option}
 use Rattle.std.specs.declared.option.Option.the-variants.{Some, None}
 use Rattle.std.proofs.shelf.Tests.{le-leb, lt-leb}

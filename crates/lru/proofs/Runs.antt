@@ -21,9 +21,6 @@ pub record Ran (k : ℕ) (trace start : List ℕ) (told : List Reply) (i n : ℕ
   pub after : lru-after k cache (drop i trace) ≡ lru-after k start trace
   pub replied : stored i (replies k cache (drop i trace)) told′ ≡ stored 0 (replies k start trace) told
 
-pub ran-none : (k : ℕ) (trace start : List ℕ) (told : List Reply) → Ran k trace start told 0 0 start told
-ran-none k trace start told = record { few = omega arith; fetches = omega arith; after = refl; replied = refl }
-
 module _ (k : ℕ) (trace start : List ℕ) (told : List Reply) (i n : ℕ) (cache : List ℕ) (told′ : List Reply) (ran : Ran k trace start told i n cache told′) where
   pub ran-more :
       i < length trace →

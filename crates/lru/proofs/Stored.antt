@@ -1,7 +1,7 @@
 -- A list stored place by place into another, as far as that goes.
 --     stored i xs t     t with the elements of xs at i, i + 1 ..
 use mathlib.Core.Path.{_≡_, refl, ap, sym, _∙_}
-use mathlib.Core.List.{List, [], _∷_, _++_, append-assoc, append-nil}
+use mathlib.Core.List.{List, [], _∷_, _++_, append-assoc}
 use native.Mathlib.Omega.{arith}
 use Prim.Native.Nat.{ℕ, zero, suc, _+_, _≤_}
 use lib.ListN.{length, set, take, drop}

@@ -1,10 +1,9 @@
 -- A whole trace: from a checked row through its index and back.
-use mathlib.Core.Path.{_≡_, ap, sym, subst, _∙_}
-use mathlib.Core.Bool.{true}
-use mathlib.Core.List.{List, [], _∷_, _++_}
+use mathlib.Core.Path.{_≡_, ap, subst, _∙_}
+use mathlib.Core.List.{List, _++_}
 use native.Mathlib.Omega.{arith}
-use Prim.Native.Nat.{ℕ, suc, _+_, _*_, _-_, _≤_, _<_}
-use lib.ListN.{length, getD, take, drop}
+use Prim.Native.Nat.{ℕ, _+_}
+use lib.ListN.{length, take, drop}
 use Rattle.std.specs.declared.option.Option.the-variants.{Some, None}
 use Rattle.paging.specs.Lru.{lru-fetches, lru-after}
 use Rattle.paging.proofs.Competitive.{competitive-from}

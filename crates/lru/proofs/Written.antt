@@ -1,17 +1,17 @@
 -- A cache row read into its index page by page, and written from it.
-use mathlib.Core.Path.{_≡_, refl, ap, sym, _∙_}
-use mathlib.Core.Bool.{true, false}
-use mathlib.Core.List.{List, [], _∷_, _++_, append-assoc}
+use mathlib.Core.Path.{_≡_, ap, sym, _∙_}
+use mathlib.Core.Bool.{true}
+use mathlib.Core.List.{List, [], _∷_, _++_}
 use native.Mathlib.Omega.{arith}
-use Prim.Native.Nat.{ℕ, zero, suc, min, _+_, _-_, _*_, _≤_, _<_}
+use Prim.Native.Nat.{ℕ, suc, _+_, _-_, _≤_, _<_}
 use borrow.Rule.Slice.PartMut.{putMid}
 use lib.ListN.{length, getD, set, take, drop, replicate}
-use Rattle.std.proofs.shelf.Lists.{drop-more, take-append-drop, take-all, drop-replicate, length-take, length-drop, getD-take, getD-drop, length-replicate}
-use Rattle.paging.specs.Lists.{has, distinct}
+use Rattle.std.proofs.shelf.Lists.{drop-more, take-append-drop, take-all, drop-replicate, length-take, length-drop, getD-take, getD-drop}
+use Rattle.paging.specs.Lists.{distinct}
 use Rattle.paging.specs.Lru.{lru}
 use Rattle.paging.proofs.Appends.{distinct-back, distinct-cons}
 use Rattle.paging.proofs.Requests.{lru-free}
-use Rattle.lru.specs.Rows.{capacity, cached, row-of}
+use Rattle.lru.specs.Rows.{cached}
 
 pub length-cached : (row : List ℕ) (k : ℕ) → getD row 1 0 ≤ k → 2 + k ≤ length row → length (cached row) ≡ getD row 1 0
 length-cached row k few long = let a = length-take (getD row 1 0) (drop 2 row) in let b = length-drop 2 row in omega arith

@@ -114,7 +114,7 @@ pub fn check(cache: &[u64], index_len: usize) -> Result<(usize, usize), Refusal>
 }
 
 // The first page of a trace that is not below 2^32.
-pub(crate) fn first_wide(trace: &[u64]) -> Option<Refusal>
+pub fn first_wide(trace: &[u64]) -> Option<Refusal>
     ensures value { λ r. ⌜ r ≡ first-wide (now (trace .entry)) ⌝ }
 {
     for page in trace {

@@ -6,6 +6,7 @@ mod replies;
 mod rows;
 
 pub use checks::check;
+pub use checks::first_wide;
 pub use plays::play;
 pub use plays::request;
 pub use plays::serve;

@@ -19,3 +19,17 @@ pub mod Soon
 pub mod Stretches
 pub mod Tallies
 pub mod Weights
+pub mod Fresh
+pub mod Rounds
+pub mod Histories
+pub mod Beside
+pub mod Counts
+pub mod Steps
+pub mod Played
+pub mod Guards
+pub mod Alternating
+pub mod Failures
+pub mod Entries
+pub mod Caches
+pub mod Fewest
+pub mod Bounds

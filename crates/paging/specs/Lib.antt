@@ -7,3 +7,11 @@ pub mod Schedules
 pub mod Sifted
 pub mod Stretches
 pub mod Worked
+pub mod Adversary
+pub mod Policies
+pub mod LowerBound
+pub mod Stepwise
+pub mod Guarded
+pub mod Failing
+pub mod Rules
+pub mod WorkedRounds

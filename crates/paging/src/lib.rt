@@ -115,3 +115,7 @@ pub fn worked_stands() -> u8
 {
     0
 }
+
+pub mod failing;
+pub mod lower_bound;
+pub mod rules;

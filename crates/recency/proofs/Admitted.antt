@@ -1,17 +1,16 @@
 -- A page that was not there comes into a slot, which is put in front.
-use mathlib.Core.Path.{_≡_, refl, ap, sym, subst, _∙_}
-use mathlib.Core.Logic.{_⊎_, inl, inr, ⊎-elim, _≢_}
-use mathlib.Core.Bool.{Bool, true, false, cond, not, _&&_, _||_}
-use mathlib.Core.List.{List, [], _∷_, _++_, map}
+use mathlib.Core.Path.{_≡_, _∙_}
+use mathlib.Core.Bool.{true, false}
+use mathlib.Core.List.{List, _∷_, map}
 use native.Mathlib.Omega.{arith}
-use Prim.Native.Nat.{ℕ, suc, _+_, _*_, _≤_, _<_}
-use lib.ListN.{length, getD, set, drop}
+use Prim.Native.Nat.{ℕ, suc, _+_, _*_, _≤_}
+use lib.ListN.{length, set, drop}
 use Rattle.std.proofs.shelf.Lists.{getD-set-same, getD-set-other, length-set, drop-set-lt}
-use Rattle.paging.specs.Lists.{has, distinct}
+use Rattle.paging.specs.Lists.{has}
 use Rattle.paging.specs.Lru.{lru}
-use Rattle.paging.proofs.Appends.{has-first, has-later, has-tail, has-apart}
-use Rattle.recency.specs.Row.{count, used, next, prev, held, cell, pages, pushed, admitted}
-use Rattle.recency.specs.Sound.{Chain, Linked, Table, Finds, Kept, Sized, Sound}
+use Rattle.paging.proofs.Appends.{has-tail, has-apart}
+use Rattle.recency.specs.Row.{count, next, prev, held, pages, admitted}
+use Rattle.recency.specs.Sound.{Linked, Table, Finds, Kept, Sized, Sound}
 use Rattle.recency.proofs.Cells.{table-same}
 use Rattle.recency.proofs.Frames.{Relinked}
 use Rattle.recency.proofs.Links.{chain-same}

@@ -1,9 +1,9 @@
 -- A list copied place by place onto the front of another, as far as both go.
-use mathlib.Core.Path.{_≡_, refl, ap, sym, _∙_}
+use mathlib.Core.Path.{_≡_, ap, sym, _∙_}
 use mathlib.Core.Logic.{⊎-elim}
-use mathlib.Core.List.{List, [], _∷_, _++_}
+use mathlib.Core.List.{List, _++_}
 use native.Mathlib.Omega.{arith}
-use Prim.Native.Nat.{ℕ, min, _+_, _≤_, _<_}
+use Prim.Native.Nat.{ℕ, min, _+_, _<_}
 use lib.ListN.{length, getD, set, take, drop}
 use Rattle.std.proofs.shelf.Lists.{take-more, take-more-set, take-all, take-append-drop, drop-set-lt, drop-drop, drop-all}
 use Rattle.std.proofs.shelf.Tests.{cases-lt}

@@ -1,14 +1,13 @@
 -- A row that was emptied is sound and holds no page.
-use mathlib.Core.Path.{_≡_, refl, _∙_}
-use mathlib.Core.Bool.{true, false, not, _&&_}
+use mathlib.Core.Path.{_≡_, refl}
 use mathlib.Core.List.{List, []}
 use native.Mathlib.Omega.{arith}
 use Prim.Native.Nat.{ℕ, _+_, _*_, _≤_, _<_}
-use lib.ListN.{length, getD, drop}
+use lib.ListN.{length, drop}
 use Rattle.std.proofs.shelf.Tests.{false≢true}
 use Rattle.paging.specs.Lists.{has, distinct}
 use Rattle.recency.specs.Row.{count, used, next, prev, cell, pages, walk}
-use Rattle.recency.specs.Sound.{Chain, Linked, Sized, Sound, Emptied}
+use Rattle.recency.specs.Sound.{Chain, Emptied}
 use Rattle.recency.proofs.Cells.{table-none, table-fewer}
 
 module _ (k : ℕ) (row row′ : List ℕ) (low : 1 ≤ k) (high : k ≤ 4096) (long : 9 * k + 5 ≤ length row′) where

@@ -1,6 +1,6 @@
 -- A home lies below 4 * k.
 use native.Mathlib.Omega.{arith}
-use Prim.Native.Nat.{ℕ, _+_, _*_, _/_, _%_, _^_, _≤_, _<_}
+use Prim.Native.Nat.{ℕ, _*_, _/_, _^_, _≤_, _<_}
 use Rattle.std.proofs.shelf.Bits.{div-below, mul-le, mod-below}
 use lib.Bits.{bitXor}
 use Rattle.recency.specs.Hash.{mixed, home, product}

@@ -1,18 +1,18 @@
 -- A request for a page that is not there: it comes into a free slot, or into that of the page used longest ago.
 use mathlib.Core.Path.{_≡_, refl, ap, sym, subst, _∙_}
-use mathlib.Core.Logic.{_⊎_, inl, inr, ⊎-elim, _≢_}
-use mathlib.Core.Bool.{Bool, true, false, cond, not, _&&_, _||_}
+use mathlib.Core.Logic.{⊎-elim}
+use mathlib.Core.Bool.{true, false}
 use mathlib.Core.List.{List, [], _∷_, _++_, map, append-nil}
 use native.Mathlib.Omega.{arith}
-use Prim.Native.Nat.{ℕ, suc, _+_, _*_, _≤_, _<_}
-use lib.ListN.{length, getD, set, drop}
+use Prim.Native.Nat.{ℕ, _+_, _*_, _≤_, _<_}
+use lib.ListN.{length, getD, set}
 use Rattle.std.proofs.shelf.Lists.{getD-set-same, getD-set-other, length-set, drop-set-lt, length-append, map-append}
-use Rattle.std.proofs.shelf.Tests.{cases-eq, cases-bool}
-use Rattle.paging.specs.Lists.{has, distinct, last-of}
+use Rattle.std.proofs.shelf.Tests.{cases-eq}
+use Rattle.paging.specs.Lists.{has, last-of}
 use Rattle.paging.specs.Lru.{lru}
-use Rattle.paging.proofs.Appends.{has-first, has-later, has-none, has-cut, Ended, ended, last-append}
+use Rattle.paging.proofs.Appends.{has-first, has-later, has-none, has-cut, ended, last-append}
 use Rattle.paging.proofs.Requests.{lru-free, lru-full}
-use Rattle.recency.specs.Row.{count, used, next, prev, held, cell, pages, unlinked, admitted}
+use Rattle.recency.specs.Row.{count, next, prev, held, pages, unlinked, admitted}
 use Rattle.recency.specs.Sound.{Chain, Linked, Table, Finds, Kept, Sized, Sound}
 use Rattle.recency.proofs.Admitted.{linked-same, admitted-served}
 use Rattle.recency.proofs.Cells.{table-same, table-fewer}

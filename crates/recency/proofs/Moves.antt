@@ -1,19 +1,19 @@
 -- The row when a slot is taken out of the ring, and when one is put in front.
-use mathlib.Core.Path.{_≡_, refl, ap, sym, _∙_}
-use mathlib.Core.Logic.{_⊎_, inl, inr, ⊎-elim, _≢_}
-use mathlib.Core.Bool.{Bool, true, false, cond, not, _&&_, _||_}
-use mathlib.Core.List.{List, [], _∷_, _++_}
+use mathlib.Core.Path.{_≡_, refl, sym, _∙_}
+use mathlib.Core.Logic.{inl, inr, _≢_}
+use mathlib.Core.Bool.{true, false}
+use mathlib.Core.List.{List, _∷_, _++_}
 use native.Mathlib.Omega.{arith}
-use Prim.Native.Nat.{ℕ, _+_, _*_, _≤_, _<_}
-use lib.ListN.{length, getD, set}
+use Prim.Native.Nat.{ℕ, _+_, _*_, _≤_}
+use lib.ListN.{length, set}
 use Rattle.std.proofs.shelf.Ways.{tells}
 use Rattle.std.proofs.shelf.Lists.{getD-set-same, getD-set-other, length-set}
 use Rattle.paging.specs.Lists.{has, distinct}
-use Rattle.paging.proofs.Appends.{has-cut, has-first, has-later, has-tail, has-apart, distinct-cut, distinct-cons}
-use Rattle.recency.specs.Row.{next, prev, held, unlinked, pushed}
-use Rattle.recency.specs.Sound.{Chain, Linked}
+use Rattle.paging.proofs.Appends.{has-cut, has-first, has-later, has-tail, has-apart, distinct-cut}
+use Rattle.recency.specs.Row.{next, prev, unlinked, pushed}
+use Rattle.recency.specs.Sound.{Linked}
 use Rattle.recency.proofs.Frames.{Relinked, relinked-trans, relinked-set}
-use Rattle.recency.proofs.Links.{chain-same, chain-unlink, chain-push, chain-next, chain-prev}
+use Rattle.recency.proofs.Links.{chain-unlink, chain-push, chain-next, chain-prev}
 
 -- what stands in order lies within n, and so does slot 0
 pub linked-end : (n : ℕ) (row order : List ℕ) → Linked n row order → (s : ℕ) → has (0 ∷ order) s ≡ true → s ≤ n

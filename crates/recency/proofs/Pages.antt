@@ -1,7 +1,7 @@
 -- The pages that a row holds, by its ring.
 use mathlib.Core.Path.{_≡_, refl, ap, sym, _∙_}
-use mathlib.Core.Bool.{Bool, true, false, cond, not, _&&_, _||_}
-use mathlib.Core.List.{List, [], _∷_, _++_, map}
+use mathlib.Core.Bool.{true, false, not}
+use mathlib.Core.List.{List, [], _∷_, map}
 use native.Mathlib.Omega.{arith}
 use mathlib.Core.Logic.{⊎-elim}
 use Prim.Native.Nat.{ℕ, zero, suc, _+_, _≤_, _<_}
@@ -10,10 +10,10 @@ use lib.ListN.{length, getD}
 use Rattle.std.proofs.shelf.Ways.{tells}
 use Rattle.std.proofs.shelf.Lists.{length-map, getD-past, getD-map}
 use Rattle.std.proofs.shelf.Tests.{cases-lt}
-use Rattle.paging.specs.Lists.{has, distinct}
+use Rattle.paging.specs.Lists.{has}
 use Rattle.paging.proofs.Appends.{has-at, has-apart, distinct-cons}
-use Rattle.recency.specs.Row.{count, next, prev, held, walk, pages}
-use Rattle.recency.specs.Sound.{Chain, Linked, Sound}
+use Rattle.recency.specs.Row.{count, next, prev, held, pages}
+use Rattle.recency.specs.Sound.{Linked, Sound}
 use Rattle.recency.proofs.Links.{walk-chain, chain-at, chain-first}
 
 pub pages-linked : (n : ℕ) (row order : List ℕ) → Linked n row order → length order ≡ count row → pages row ≡ map (held row) order

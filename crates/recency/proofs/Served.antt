@@ -1,23 +1,21 @@
 -- The row after a request: what makes it sound again, and what it then holds.
-use mathlib.Core.Path.{_≡_, refl, ap, sym, subst, _∙_}
-use mathlib.Core.Logic.{_⊎_, inl, inr, ⊎-elim, _≢_}
-use mathlib.Core.Bool.{Bool, true, false, cond, not, _&&_, _||_}
-use mathlib.Core.List.{List, [], _∷_, _++_, map}
+use mathlib.Core.Path.{_≡_, ap, sym, subst, _∙_}
+use mathlib.Core.Bool.{true, false}
+use mathlib.Core.List.{List, _∷_, _++_, map}
 use native.Mathlib.Omega.{arith}
-use Prim.Native.Nat.{ℕ, suc, _+_, _*_, _≤_, _<_}
-use lib.ListN.{length, getD, set, drop}
-use Rattle.std.proofs.shelf.Ways.{tells}
+use Prim.Native.Nat.{ℕ, _+_, _*_, _≤_}
+use lib.ListN.{length, drop}
 use Rattle.std.proofs.shelf.Lists.{length-append, map-append}
 use Rattle.paging.specs.Lists.{has, distinct}
 use Rattle.paging.specs.Lru.{lru}
-use Rattle.paging.proofs.Appends.{has-cut, has-first, has-later, has-tail, has-apart, distinct-cut, distinct-cons, Cut, cut-at}
-use Rattle.paging.proofs.Requests.{lru-there, lru-free, lru-full, lru-distinct}
-use Rattle.recency.specs.Row.{count, used, next, prev, held, cell, pages, unlinked, pushed}
-use Rattle.recency.specs.Sound.{Chain, Linked, Placed, Table, Finds, Sized, Sound}
+use Rattle.paging.proofs.Appends.{has-cut, has-first, has-later, distinct-cut, Cut, cut-at}
+use Rattle.paging.proofs.Requests.{lru-there, lru-distinct}
+use Rattle.recency.specs.Row.{count, used, next, prev, held, pages, unlinked, pushed}
+use Rattle.recency.specs.Sound.{Linked, Table, Finds, Sized, Sound}
 use Rattle.recency.proofs.Cells.{table-same}
 use Rattle.recency.proofs.Frames.{Relinked, relinked-trans}
 use Rattle.recency.proofs.Moves.{linked-next, linked-prev, linked-unlinked, linked-pushed, unlinked-relinked, pushed-relinked}
-use Rattle.recency.proofs.Pages.{pages-linked, pages-sound, length-pages, map-same, linked-low}
+use Rattle.recency.proofs.Pages.{pages-linked, pages-sound, length-pages, map-same}
 
 -- what a request for page leaves of the row
 pub record Served (k : ℕ) (row : List ℕ) (page : ℕ) (row′ : List ℕ) : Type 0 where

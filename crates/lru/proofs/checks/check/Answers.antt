@@ -1,9 +1,9 @@
 use mathlib.Core.Path.{_≡_, refl, sym, _∙_}
 use mathlib.Core.List.{[]}
 use native.Mathlib.Omega.{arith}
-use Prim.Native.Nat.{_≤_, _<_, _+_, _-_}
-use lib.ListN.{getD, take, drop}
-use Rattle.lru.specs.Rows.{capacity, cached, first-bad, fault}
+use Prim.Native.Nat.{_≤_, _+_, _-_}
+use lib.ListN.{getD}
+use Rattle.lru.specs.Rows.{capacity, cached}
 use Rattle.lru.proofs.Faults.{fault-unshaped, fault-overfull, fault-pages, fine}
 use Rattle.lru.proofs.checks.check.Needs as need
 

@@ -1,11 +1,9 @@
 use mathlib.Core.Path.{_≡_, refl, ap, sym, _∙_}
 use native.Mathlib.Omega.{arith}
 use mathlib.Core.List.{_∷_}
-use Prim.Native.Nat.{ℕ, _+_}
-use lib.ListN.{length, getD, drop}
+use lib.ListN.{length, getD}
 use Rattle.paging.proofs.Requests.{lru-free}
 use Rattle.recency.specs.Row as recent
-use Rattle.lru.specs.Rows.{first-bad}
 use Rattle.lru.proofs.Hits.{hit-there, no-hit-absent}
 use Rattle.lru.proofs.Scans.{scan-wide, scan-twice, scan-more, scan-all}
 use Rattle.lru.proofs.checks.scan.Needs as need

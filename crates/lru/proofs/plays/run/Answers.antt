@@ -1,13 +1,11 @@
-use mathlib.Core.Path.{_≡_, ap, sym, _∙_}
+use mathlib.Core.Path.{_≡_, ap, _∙_}
 use native.Mathlib.Omega.{arith}
-use borrow.Author.Needs.{needs}
-use lib.ListN.{getD, set, drop}
-use Prim.Native.Nat.{ℕ, _+_}
+use lib.ListN.{getD, set}
 use Rattle.recency.specs.Outcome.{outcome}
 use Rattle.recency.specs.Row as recent
 use Rattle.lru.specs.Replies.{as-reply, fetches-of}
 use Rattle.lru.specs.declared.replies.Reply.{Reply}
-use Rattle.lru.proofs.Runs.{ran-none, ran-more, ran-all, length-replies}
+use Rattle.lru.proofs.Runs.{ran-more, ran-all, length-replies}
 use Rattle.lru.proofs.plays.run.Needs as need
 
 pub loop-i-again : need.loop-i-again

@@ -1,5 +1,4 @@
 use mathlib.Core.Path.{_≡_}
-use Prim.Native.Nat.{_+_, _*_}
 use lib.ListN.{length, drop}
 use Rattle.recency.specs.Row as recent
 use Rattle.lru.specs.Rows.{cached}

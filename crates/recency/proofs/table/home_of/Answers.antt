@@ -1,5 +1,5 @@
 use native.Mathlib.Omega.{arith}
-use mathlib.Core.Path.{_≡_, ap, refl}
+use mathlib.Core.Path.{_≡_, ap}
 use Prim.Native.Nat.{ℕ, _*_, _/_, _^_}
 use Rattle.recency.specs.Hash.{home}
 use Rattle.recency.proofs.Homes.{home-below}

@@ -1,4 +1,3 @@
-use Prim.Native.Nat.{ℕ, _≤_, _<_}
 use Rattle.recency.proofs.Cells.{Passed}
 use Rattle.recency.proofs.table.probe.Given as given
 

@@ -1,7 +1,6 @@
 use mathlib.Core.Path.{_≡_}
 use lib.ListN.{length}
 use Rattle.recency.specs.Row.{count}
-use Rattle.recency.specs.Sound.{Sized}
 use Rattle.recency.proofs.Cells.{Entered}
 use Rattle.recency.proofs.table.rebuild.Given as given
 

@@ -1,8 +1,5 @@
-use mathlib.Core.Path.{_≡_, sym}
 use native.Mathlib.Omega.{arith}
 use Prim.Native.Nat.{_≤_}
-use Rattle.recency.specs.Row.{admitted}
-use Rattle.recency.specs.Sound.{Sized, Table}
 use Rattle.recency.proofs.Admitted.{admitted-sized, admitted-count, admitted-table}
 use Rattle.recency.proofs.uses.admit.Needs as need
 

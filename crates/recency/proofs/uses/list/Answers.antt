@@ -1,8 +1,7 @@
 use mathlib.Core.Path.{_≡_, refl, ap, sym, _∙_}
 use native.Mathlib.Omega.{arith}
 use borrow.Author.Needs.{needs}
-use Prim.Native.Nat.{_+_, _<_}
-use lib.ListN.{length}
+use Prim.Native.Nat.{_+_}
 use Rattle.recency.specs.Row.{pages, next, held}
 use Rattle.recency.specs.Sound.{Sound}
 use Rattle.recency.proofs.Copies.{front-more, back-more, copied}

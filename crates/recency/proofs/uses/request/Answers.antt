@@ -1,9 +1,7 @@
 use mathlib.Core.Path.{_≡_, ap, _∙_}
-use mathlib.Core.Bool.{true, false}
 use native.Mathlib.Omega.{arith}
-use Prim.Native.Nat.{ℕ, _≤_}
-use Rattle.paging.specs.Lists.{has}
-use Rattle.recency.specs.Row.{count, pages, pushed, unlinked}
+use Prim.Native.Nat.{_≤_}
+use Rattle.recency.specs.Row.{count, pages}
 use Rattle.recency.specs.declared.uses.Outcome.the-variants.{Evicted}
 use Rattle.recency.proofs.Misses.{last-high}
 use Rattle.recency.proofs.Outcomes.{outcome-hit, outcome-filled, outcome-evicted}

@@ -1,0 +1,11 @@
+pub mod Carried
+pub mod Comings
+pub mod Halves
+pub mod Keeping
+pub mod Known
+pub mod Outcomes
+pub mod Passes
+pub mod Rekeyed
+pub mod Standing
+pub mod Totals
+pub mod Victims

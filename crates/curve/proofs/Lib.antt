@@ -1,0 +1,4 @@
+pub mod Passes
+pub mod Reasons
+pub mod Stacks
+pub mod Sums
