@@ -1,16 +1,18 @@
 -- The bytes of a piece. Assumes nothing.
 --     all-decoded     a row with room for every request has them all in front
---     all-small       and each is a page
+--     requests-small  what bytes request are pages
 use mathlib.Core.Path.{_≡_, refl, _∙_}
 use mathlib.Core.List.{List, [], _∷_, _++_}
 use Prim.Native.Nat.{ℕ, suc, _-_, _/_, _^_, _≤_, _<_, min}
 use native.Mathlib.Omega.{arith}
 use lib.ListN.{length, getD, take, drop}
+use mir.Syntax.{w8}
+use mir.Val.{Fits}
 use Rattle.std.specs.declared.option.Option.the-variants.{None}
-use Rattle.std.proofs.shelf.Lists.{take-at, take-all, length-take-le, getD-take}
+use Rattle.std.proofs.shelf.Lists.{take-at, take-all, length-take-le}
 use Rattle.std.proofs.shelf.Tests.{lt-leb}
 use Rattle.lru.specs.Rows.{first-wide}
-use Rattle.trace.specs.Requests.{requests-in}
+use Rattle.trace.specs.Requests.{page-of, requests-in}
 use Rattle.trace.proofs.Groups.{length-requests}
 
 pub all-decoded :
@@ -23,12 +25,13 @@ all-decoded bs out row r e f room =
     let long : length (requests-in bs) ≤ r = omega arith in
     rw (same, f) (take-at (take r (requests-in bs)) (drop r out) r (length-take-le r (requests-in bs) short) ∙ take-all r (requests-in bs) long)
 
-none-wide : (xs : List ℕ) → ((i : ℕ) → i < length xs → getD xs i 0 < 2 ^ 32) → first-wide xs ≡ None
-unfolding first-wide
-none-wide [] small = refl
-none-wide (x ∷ xs) small = simp (lt-leb (2 ^ 32) x (small 0 (omega arith))) (none-wide xs (λ i h. small (suc i) (omega arith)))
-
-pub all-small : (row : List ℕ) (r : ℕ) → r ≤ length row → ((i : ℕ) → i < r → getD row i 0 < 2 ^ 32) → first-wide (take (r - 0) row) ≡ None
-all-small row r short small =
-    let same : r - 0 ≡ r = omega arith in
-    rw same (none-wide (take r row) (λ i h. let l = length-take-le r row short in let lt : i < r = omega arith in rw (getD-take r row i 0 lt) (small i lt)))
+-- bytes request pages
+pub requests-small : (bs : List ℕ) → ((i : ℕ) → Fits w8 (getD bs i 0)) → first-wide (requests-in bs) ≡ None
+unfolding requests-in first-wide
+requests-small [] byte = refl
+requests-small (a ∷ []) byte = refl
+requests-small (a ∷ b ∷ []) byte = refl
+requests-small (a ∷ b ∷ c ∷ []) byte = refl
+requests-small (a ∷ b ∷ c ∷ d ∷ rest) byte =
+    let small : page-of a b c d < 2 ^ 32 = omega (arith, byte 0 .fits, byte 1 .fits, byte 2 .fits, byte 3 .fits) in
+    simp (lt-leb (2 ^ 32) (page-of a b c d) small) (requests-small rest (λ i. byte (suc (suc (suc (suc i))))))

@@ -2,8 +2,8 @@
 --     lines-more       one request on: what is said so far and what is left to say come to the same text
 --     lines-done       nothing is left to say at the end
 --     lines-answered   the lines are those of the replies in front
---     lines-in-pieces  the lines of an input are those of its first piece, and then those of the second with what the first left over
---     cache-in-pieces  and so for the cache
+--     lines-append     the lines of two traces, one after the other
+--     cache-append     and so for the cache
 use mathlib.Core.Path.{_≡_, refl, sym, ap, _∙_}
 use mathlib.Core.Bool.{Bool, true, false}
 use mathlib.Core.List.{List, [], _∷_, _++_, append-assoc, append-nil}
@@ -19,8 +19,6 @@ use Rattle.lru.specs.declared.replies.Reply.the-variants.{Here, Refused}
 use Rattle.lru.proofs.Runs.{length-replies}
 use Rattle.trace.specs.Lines.{line-bytes}
 use Rattle.trace.specs.declared.lines.Line.{Line}
-use Rattle.trace.specs.Requests.{requests-in, left-over}
-use Rattle.trace.proofs.Groups.{requests-in-pieces}
 use Rattle.day.specs.Said.{is-capacity, answers, cache-at-end, said, lines-of, lines-for}
 
 module _ (trace : List ℕ) (rs : List Reply) (i : ℕ) where
@@ -53,13 +51,13 @@ unfolding lines-for
 lines-answered k cache trace trace′ rs e replied =
     sym (lines-front trace rs) ∙ ap (lines-of trace) replied ∙ ap (λ (ts : List ℕ). lines-of ts (answers k cache ts)) e
 
-lines-append : (xs ys : List ℕ) (rs ss : List Reply) → length xs ≡ length rs → lines-of (xs ++ ys) (rs ++ ss) ≡ lines-of xs rs ++ lines-of ys ss
+said-append : (xs ys : List ℕ) (rs ss : List Reply) → length xs ≡ length rs → lines-of (xs ++ ys) (rs ++ ss) ≡ lines-of xs rs ++ lines-of ys ss
 unfolding lines-of
-lines-append [] ys [] ss same = refl
-lines-append [] ys (r ∷ rs) ss same = absurd (omega arith)
-lines-append (x ∷ xs) ys [] ss same = absurd (omega arith)
-lines-append (x ∷ xs) ys (r ∷ rs) ss same =
-    ap (λ (l : List ℕ). line-bytes (said x r) ++ (10 ∷ l)) (lines-append xs ys rs ss (omega arith))
+said-append [] ys [] ss same = refl
+said-append [] ys (r ∷ rs) ss same = absurd (omega arith)
+said-append (x ∷ xs) ys [] ss same = absurd (omega arith)
+said-append (x ∷ xs) ys (r ∷ rs) ss same =
+    ap (λ (l : List ℕ). line-bytes (said x r) ++ (10 ∷ l)) (said-append xs ys rs ss (omega arith))
     ∙ sym (append-assoc (line-bytes (said x r)) (10 ∷ lines-of xs rs) (lines-of ys ss))
 
 replies-append : (k : ℕ) (cache xs ys : List ℕ) → replies k cache (xs ++ ys) ≡ replies k cache xs ++ replies k (lru-after k cache xs) ys
@@ -85,23 +83,16 @@ module _ (k : ℕ) (cache xs ys : List ℕ) where
   answers-long true is = simp is (sym (length-replies k cache xs))
   answers-long false is = simp is (sym (length-replicate (length xs) (Refused NoCache)))
 
-  cache-append : (b : Bool) → is-capacity k ≡ b → cache-at-end k cache (xs ++ ys) ≡ cache-at-end k (cache-at-end k cache xs) ys
+  cached-append : (b : Bool) → is-capacity k ≡ b → cache-at-end k cache (xs ++ ys) ≡ cache-at-end k (cache-at-end k cache xs) ys
   unfolding cache-at-end
-  cache-append true is = simp is (after-append k cache xs ys)
-  cache-append false is = simp is
+  cached-append true is = simp is (after-append k cache xs ys)
+  cached-append false is = simp is
 
-  lines-for-append : lines-for k cache (xs ++ ys) ≡ lines-for k cache xs ++ lines-for k (cache-at-end k cache xs) ys
+  pub cache-append : cache-at-end k cache (xs ++ ys) ≡ cache-at-end k (cache-at-end k cache xs) ys
+  cache-append = cached-append (is-capacity k) refl
+
+  pub lines-append : lines-for k cache (xs ++ ys) ≡ lines-for k cache xs ++ lines-for k (cache-at-end k cache xs) ys
   unfolding lines-for
-  lines-for-append =
+  lines-append =
       ap (lines-of (xs ++ ys)) (answers-append (is-capacity k) refl)
-      ∙ lines-append xs ys (answers k cache xs) (answers k (cache-at-end k cache xs) ys) (answers-long (is-capacity k) refl)
-
-module _ (k : ℕ) (cache first second : List ℕ) where
-  pub lines-in-pieces :
-      lines-for k cache (requests-in (first ++ second))
-      ≡ lines-for k cache (requests-in first) ++ lines-for k (cache-at-end k cache (requests-in first)) (requests-in (left-over first ++ second))
-  lines-in-pieces = rw (requests-in-pieces first second) (lines-for-append k cache (requests-in first) (requests-in (left-over first ++ second)))
-
-  pub cache-in-pieces :
-      cache-at-end k cache (requests-in (first ++ second)) ≡ cache-at-end k (cache-at-end k cache (requests-in first)) (requests-in (left-over first ++ second))
-  cache-in-pieces = rw (requests-in-pieces first second) (cache-append k cache (requests-in first) (requests-in (left-over first ++ second)) (is-capacity k) refl)
+      ∙ said-append xs ys (answers k cache xs) (answers k (cache-at-end k cache xs) ys) (answers-long (is-capacity k) refl)

@@ -1,7 +1,8 @@
-// A trace served piece by piece as it comes in, and what is said of it as text.
+// A trace served piece by piece as it comes in, and what is said of it as text: a line for each request, and the report.
+mod days;
+mod pieces;
 mod replies;
-mod requests;
+mod reports;
 
-pub use requests::PIECE;
-pub use requests::empty;
-pub use requests::serve;
+pub use days::Day;
+pub use pieces::PIECE;

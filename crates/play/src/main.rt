@@ -1,7 +1,9 @@
-// Plays a trace: an LRU cache serves each request, and a line says what became of it.
+// Plays a trace: an LRU cache serves each request, a line says what became of it, and a report follows.
 mod faults;
 mod pieces;
 
+use day::Day;
+use day::PIECE;
 use faults::Fault;
 use faults::tell;
 use pieces::fill;
@@ -10,11 +12,6 @@ use std::env;
 use std::fs;
 use std::io;
 use std::io::Read;
-
-// As long as the rows of the largest capacity.
-const CACHE_LEN: usize = 2 + recency::MAX_CAPACITY;
-
-const INDEX_LEN: usize = 9 * recency::MAX_CAPACITY + 5;
 
 const USAGE: &str =
     "usage: play [FILE], where FILE or standard input has k and m in two bytes each, then requests of four bytes, low byte first";
@@ -81,17 +78,8 @@ fn play<R: Read>(rt: &LibcRuntime, input: &mut R) -> Result<(), Fault> {
     let Some(header) = trace::read_header(&head[0..n]) else {
         return Err(Fault::InHeader(n));
     };
-    let mut cache = [0u64; CACHE_LEN];
-    day::empty(&mut cache, header.capacity);
-    let mut index = [0u64; INDEX_LEN];
-    let mut buf = [0u8; day::PIECE];
+    let mut day = Day::new(header);
+    let mut buf = [0u8; PIECE];
     let mut text = String::new(rt.alloc());
-    play_all(
-        input,
-        &mut rt.stdout(),
-        &mut cache,
-        &mut index,
-        &mut buf,
-        &mut text,
-    )
+    play_all(input, &mut rt.stdout(), &mut day, &mut buf, &mut text)
 }

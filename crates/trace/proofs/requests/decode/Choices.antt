@@ -1,13 +1,9 @@
--- So far the front of the row holds what the bytes request, which are pages, and the rest is as it was.
+-- So far the front of the row holds what the bytes request, and the rest is as it was.
 use mathlib.Core.Path.{_≡_}
 use mathlib.Core.List.{_++_}
-use Prim.Native.Nat.{ℕ, _^_, _<_}
-use lib.ListN.{length, getD, take, drop}
+use lib.ListN.{length, take, drop}
 use Rattle.trace.specs.Requests.{requests-in}
 use Rattle.trace.proofs.requests.decode.Given as given
 
 abbrev pub Inv-loop-i : given.InvT-loop-i
-Inv-loop-i l =
-    (length (l .out) ≡ length (l .entry .out))
-    × (l .out ≡ take (l .i) (requests-in (l .bytes)) ++ drop (l .i) (l .entry .out))
-    × ((k : ℕ) → k < l .i → getD (l .out) k 0 < 2 ^ 32)
+Inv-loop-i l = (length (l .out) ≡ length (l .entry .out)) × (l .out ≡ take (l .i) (requests-in (l .bytes)) ++ drop (l .i) (l .entry .out))

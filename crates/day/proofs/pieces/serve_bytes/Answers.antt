@@ -6,17 +6,19 @@ use borrow.Author.Needs.{needs}
 use Prim.Native.Nat.{ℕ, _/_, _≤_}
 use lib.ListN.{length}
 use Rattle.std.specs.Of.String.{string-bytes}
-use Rattle.lru.specs.Rows.{capacity, cached}
+use Rattle.lru.specs.Rows.{capacity, cached, first-wide}
 use Rattle.day.specs.Said.{cache-at-end}
-use Rattle.day.proofs.Decoded.{all-decoded, all-small}
+use Rattle.day.proofs.Decoded.{all-decoded, requests-small}
 use Rattle.day.proofs.Lines.{lines-answered}
-use Rattle.day.proofs.requests.serve.Needs as need
+use Rattle.day.proofs.pieces.serve_bytes.Needs as need
 
 pub answer-requires : need.answer-requires
 answer-requires c κs =
+    let fits : length (c .args .bytes .now) / 4 ≤ 16384 = omega arith in
+    let e = all-decoded _ _ _ _ (c .decode-count .ensures .value) (c .decode-count .ensures .after) fits in
     record {
       ready = c .pre .ready;
-      small = all-small (c .decode-count .last .out) (c .decode-count .result) (omega arith) (c .decode-count .ensures .bound);
+      small = ap first-wide e ∙ requests-small (c .args .bytes .now) (c .typed .bytes);
       room = search needs;
     }
 

@@ -1,13 +1,14 @@
-// Requests that come as bytes, served on two lent rows and told in lines of text.
+// Requests that come as bytes, served on two lent rows and told in lines of text, and the first of them kept.
 ghost use mathlib.Core.Path.{_≡_};
 ghost use mathlib.Core.Bool.{true};
 ghost use mathlib.Core.List.{[], _++_};
-ghost use Prim.Native.Nat.{ℕ, _+_, _*_, _≤_};
-ghost use lib.ListN.{length};
+ghost use Prim.Native.Nat.{ℕ, _+_, _-_, _*_, _^_, min, _≤_};
+ghost use lib.ListN.{length, take};
 ghost use Rattle.std.specs.Of.String.{string-bytes};
 ghost use Rattle.std.specs.Results.{isOk};
 ghost use Rattle.trace.specs.Requests.{requests-in};
-ghost use Rattle.lru.specs.Rows.{capacity, cached};
+ghost use Rattle.std.specs.declared.option.Option.the-variants.{None};
+ghost use Rattle.lru.specs.Rows.{capacity, cached, first-wide};
 ghost use Rattle.day.specs.Said.{Ready, lines-for, cache-at-end};
 use crate::replies::answer;
 use crate::replies::tell;
@@ -20,7 +21,7 @@ pub const PIECE: usize = 65536;
 const REQUESTS: usize = PIECE / 4;
 
 // Writes an empty cache row of capacity k. Where k is no capacity, it turns every request away.
-pub fn empty(cache: &mut [u64], k: usize)
+pub(crate) fn empty(cache: &mut [u64], k: usize)
     requires room { ⌜ 2 + 4096 ≤ length (now cache) ⌝ }
     ensures ready { λ _. ⌜ ((m : ℕ) → 9 * 4096 + 5 ≤ m → Ready (now (cache .exit)) m) ⌝ }
     ensures capacity { λ _. ⌜ capacity (now (cache .exit)) ≡ k ⌝ }
@@ -31,7 +32,12 @@ pub fn empty(cache: &mut [u64], k: usize)
 }
 
 // Serves the requests that the bytes hold whole, and adds their lines to the text.
-pub fn serve(cache: &mut [u64], index: &mut [u64], bytes: &[u8], text: &mut String) -> fmt::Result
+pub(crate) fn serve_bytes(
+    cache: &mut [u64],
+    index: &mut [u64],
+    bytes: &[u8],
+    text: &mut String,
+) -> fmt::Result
     requires ready { ⌜ Ready (now cache) (length (now index)) ⌝ }
     requires short { ⌜ length (now bytes) ≤ 65536 ⌝ }
     ensures ready { λ _. ⌜ Ready (now (cache .exit)) (length (now (index .exit))) ⌝ }
@@ -44,4 +50,16 @@ pub fn serve(cache: &mut [u64], index: &mut [u64], bytes: &[u8], text: &mut Stri
     let count = trace::decode(bytes, &mut pages);
     answer(cache, index, &pages[0..count], &mut replies);
     tell(&pages[0..count], &replies, text)
+}
+
+// Writes the pages that the bytes request behind those that a trace of `total` requests has in `first`, as far as there is room, and says how
+// many requests there are then.
+pub(crate) fn keep(first: &mut [u64], total: u64, bytes: &[u8]) -> u64
+    ensures value { λ r. ⌜ r ≡ min (total + length (requests-in (now (bytes .entry)))) (2 ^ 64 - 1) ⌝ }
+    ensures after { λ r. ⌜ take r (now (first .exit)) ≡ take (length (now (first .entry))) (take total (now (first .entry)) ++ requests-in (now (bytes .entry))) ⌝ }
+    ensures small { λ r. ⌜ first-wide (requests-in (now (bytes .entry))) ≡ None ⌝ }
+{
+    let held = total.min(first.len() as u64) as usize;
+    trace::decode(bytes, &mut first[held..]);
+    total.saturating_add(bytes.len() as u64 / 4)
 }

@@ -1,6 +1,6 @@
 use native.Mathlib.Omega.{arith}
 use Rattle.day.proofs.Turned.{emptied}
-use Rattle.day.proofs.requests.empty.Needs as need
+use Rattle.day.proofs.pieces.empty.Needs as need
 
 pub returns : need.returns
 returns c =
