@@ -1,4 +1,1 @@
-pub mod Capacities
-pub mod Decoded
-pub mod Examples
-pub mod Lines
+pub mod Moved

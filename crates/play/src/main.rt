@@ -1,21 +1,17 @@
-// Plays a trace: an LRU cache serves each request, and a line says what became of it.
+// Plays a trace: an LRU cache serves each request, a line says what became of it, and a report follows.
 mod faults;
 mod pieces;
-mod requests;
 
+use day::Day;
+use day::PIECE;
 use faults::Fault;
 use faults::tell;
-use pieces::PIECE;
 use pieces::fill;
 use pieces::play_all;
-use requests::prepare;
 use std::env;
 use std::fs;
 use std::io;
 use std::io::Read;
-
-// As long as the row of the largest capacity.
-const ROW_LEN: usize = 9 * recency::MAX_CAPACITY + 5;
 
 const USAGE: &str =
     "usage: play [FILE], where FILE or standard input has k and m in two bytes each, then requests of four bytes, low byte first";
@@ -82,10 +78,8 @@ fn play<R: Read>(rt: &LibcRuntime, input: &mut R) -> Result<(), Fault> {
     let Some(header) = trace::read_header(&head[0..n]) else {
         return Err(Fault::InHeader(n));
     };
-    let mut row = [0u64; ROW_LEN];
-    let k = header.capacity;
-    prepare(&mut row, k);
+    let mut day = Day::new(header);
     let mut buf = [0u8; PIECE];
     let mut text = String::new(rt.alloc());
-    play_all(input, &mut rt.stdout(), &mut row, k, &mut buf, &mut text)
+    play_all(input, &mut rt.stdout(), &mut day, &mut buf, &mut text)
 }

@@ -5,18 +5,17 @@ ghost use Prim.Native.Nat.{_%_, _≤_};
 ghost use lib.ListN.{length, take};
 ghost use Rattle.std.specs.Of.String.{string-bytes};
 ghost use Rattle.std.specs.Results.{Cases, isOk};
-ghost use Rattle.recency.specs.Row.{pages};
 ghost use Rattle.trace.specs.Requests.{requests-in, left-over};
-ghost use Rattle.play.specs.Played.{Ready, lines-for, cache-at-end};
+ghost use Rattle.lru.specs.Rows.{capacity, cached};
+ghost use Rattle.day.specs.Said.{lines-for};
+ghost use Rattle.day.specs.Reports.{report-of};
+ghost use Rattle.day.specs.Days.{kept, Prepared, Went};
 use crate::faults::Fault;
-use crate::requests::serve_bytes;
+use day::Day;
 use std::io;
 use std::io::ErrorKind;
 use std::io::Read;
 use std::io::Write;
-
-// How many bytes a piece has at most: what a pipe holds.
-pub(crate) const PIECE: usize = 65536;
 
 // One read, made again where a signal interrupts it.
 fn read_some<R: Read>(input: &mut R, buf: &mut [u8]) -> Result<usize, Fault>
@@ -63,40 +62,54 @@ fn keep_rest(buf: &mut [u8], n: usize) -> usize
     rest
 }
 
-// Serves the whole requests of a piece, and writes their lines, which the text then holds.
-fn play_piece<W: Write>(
-    out: &mut W,
-    row: &mut [u64],
-    k: usize,
-    bytes: &[u8],
-    text: &mut String,
-) -> Result<(), Fault>
-    requires ready { ⌜ Ready k (now row) ⌝ }
-    requires short { ⌜ length (now bytes) ≤ 65536 ⌝ }
-    ensures ready { λ _. ⌜ Ready k (now (row .exit)) ⌝ }
-    ensures lines { λ r. ⌜ (isOk r ≡ true → string-bytes (now (text .exit)) ≡ lines-for k (pages (now (row .entry))) (requests-in (now (bytes .entry)))) ⌝ }
-    ensures after { λ r. ⌜ (isOk r ≡ true → pages (now (row .exit)) ≡ cache-at-end k (pages (now (row .entry))) (requests-in (now (bytes .entry)))) ⌝ }
-{
-    text.clear();
-    if serve_bytes(row, k, bytes, text).is_err() {
-        return Err(Fault::Memory);
-    }
+fn written<W: Write>(out: &mut W, text: &String) -> Result<(), Fault> {
     match out.write_all(text.as_bytes()) {
         Ok(()) => Ok(()),
         Err(e) => Err(Fault::Output(e)),
     }
 }
 
-// Plays the requests up to the end of the input. Nothing says that an input ends, so the turns are counted.
+// Serves the whole requests of a piece, and writes their lines, which the text then holds.
+fn play_piece<W: Write>(
+    out: &mut W,
+    day: &mut Day,
+    bytes: &[u8],
+    text: &mut String,
+) -> Result<(), Fault>
+    requires ready { ⌜ Prepared (now day) ⌝ }
+    requires short { ⌜ length (now bytes) ≤ 65536 ⌝ }
+    ensures ready { λ _. ⌜ Prepared (now (day .exit)) ⌝ }
+    ensures went { λ _. ⌜ Went (now (day .entry)) (requests-in (now (bytes .entry))) (now (day .exit)) ⌝ }
+    ensures lines { λ r. ⌜ (isOk r ≡ true → string-bytes (now (text .exit)) ≡ lines-for (capacity (now (day .entry) .cache)) (cached (now (day .entry) .cache)) (requests-in (now (bytes .entry)))) ⌝ }
+{
+    text.clear();
+    if day.serve(bytes, text).is_err() {
+        return Err(Fault::Memory);
+    }
+    written(out, text)
+}
+
+// Writes the report, which the text then holds.
+fn report<W: Write>(out: &mut W, day: &Day, text: &mut String) -> Result<(), Fault>
+    requires ready { ⌜ Prepared (now day) ⌝ }
+    ensures lines { λ r. ⌜ (isOk r ≡ true → string-bytes (now (text .exit)) ≡ report-of (kept (now (day .entry))) (now (day .entry) .total) (now (day .entry) .reported)) ⌝ }
+{
+    text.clear();
+    if day.report(text).is_err() {
+        return Err(Fault::Memory);
+    }
+    written(out, text)
+}
+
+// Plays the requests up to the end of the input, and reports on them. Nothing says that an input ends, so the turns are counted.
 pub(crate) fn play_all<R: Read, W: Write>(
     input: &mut R,
     out: &mut W,
-    row: &mut [u64],
-    k: usize,
+    day: &mut Day,
     buf: &mut [u8],
     text: &mut String,
 ) -> Result<(), Fault>
-    requires ready { ⌜ Ready k (now row) ⌝ }
+    requires ready { ⌜ Prepared (now day) ⌝ }
     requires room { ⌜ length (now buf) ≡ 65536 ⌝ }
 {
     let mut held = 0;
@@ -107,12 +120,12 @@ pub(crate) fn play_all<R: Read, W: Write>(
             break;
         }
         let filled = held + n;
-        play_piece(out, row, k, &buf[0..filled], text)?;
+        play_piece(out, day, &buf[0..filled], text)?;
         served = served.saturating_add(filled as u64 / 4);
         held = keep_rest(buf, filled);
     }
     if held > 0 {
         return Err(Fault::InRequest(served));
     }
-    Ok(())
+    report(out, day, text)
 }

@@ -1,9 +1,9 @@
 -- A turn moves one byte, and overwrites none that is still to be moved.
-use mathlib.Core.Path.{_≡_, refl, ap, _∙_}
-use Prim.Native.Nat.{ℕ, _+_, _-_, _%_, _<_}
+use mathlib.Core.Path.{_≡_, refl, _∙_}
+use Prim.Native.Nat.{_+_, _-_, _%_, _<_}
 use native.Mathlib.Omega.{arith}
-use lib.ListN.{length, length-set, take, drop}
-use Rattle.play.proofs.Decoded.{moved-front, moved-rest, rest-moved}
+use lib.ListN.{length, length-set}
+use Rattle.play.proofs.Moved.{moved-front, moved-rest, rest-moved}
 use Rattle.play.proofs.pieces.keep_rest.Needs as need
 
 pub loop-i-again : need.loop-i-again
