@@ -1,4 +1,6 @@
 // The adversary: requests that beat any online policy, one at a time on a lent row, beside a schedule that knows them.
+#![tactic(auto)]
+
 mod aims;
 mod asks;
 mod begins;

@@ -1,5 +1,7 @@
 // The fewest fetches anybody could make who knows the trace: for one number of places by Belady's rule itself, request by request, and for
 // every number of places in one pass. The report has both halves: what LRU fetches, and the fewest.
+#![tactic(auto)]
+
 mod counts;
 mod foresight;
 mod nexts;

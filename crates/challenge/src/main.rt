@@ -1,4 +1,6 @@
 // Challenges a policy: requests that beat it, with what it did at each, and what a schedule that knew them would have fetched.
+#![tactic(auto)]
+
 mod faults;
 mod help;
 mod input;

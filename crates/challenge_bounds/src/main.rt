@@ -1,5 +1,7 @@
 // Every challenge of up to six places and six rounds, against each of the three policies: what the policy fetched, what the schedule
 // beside it fetched by its own caches, and the fewest that anybody could. It ends with a fault where anything differs.
+#![tactic(auto)]
+
 mod caches;
 mod counts;
 mod faults;

@@ -1,4 +1,6 @@
 // Challenges of many settings, each against the three policies: what is written is held to the file stdout.
+#![tactic(auto)]
+
 use contest::{Fault, contest};
 use trace::Settings;
 

@@ -1,4 +1,6 @@
 // What the programs need of the system: their arguments, their input piece by piece, and a file that is written whole or not at all.
+#![tactic(auto)]
+
 mod files;
 mod inputs;
 mod words;

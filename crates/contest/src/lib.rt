@@ -1,4 +1,6 @@
 // A policy challenged, and what it did told in lines.
+#![tactic(auto)]
+
 mod asked;
 mod contests;
 mod faults;

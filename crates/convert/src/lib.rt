@@ -1,5 +1,7 @@
 // A day from text to bytes and back: `pack` and `unpack`, with the header of each, and the theorem that the way there and back gives the
 // same day. `pack_text` and `unpack_bytes` do it piece by piece.
+#![tactic(auto)]
+
 mod headers;
 mod packs;
 mod pieces;

@@ -4,6 +4,8 @@
 // it. `Stack` keeps the pages requested last in order and tells how many came since; `count` notes at each place how many requests
 // found their page there, and what is left of the requests is fetched. `curve` is right for all input; `check` and `count` are its
 // parts, for who writes the other half of a report's row.
+#![tactic(auto)]
+
 mod checks;
 mod counts;
 mod entry;

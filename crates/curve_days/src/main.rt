@@ -1,5 +1,7 @@
 // The curve on days worked out by hand, at the edges of what is taken, and on random days beside one cache for each capacity. One
 // line for each day.
+#![tactic(auto)]
+
 mod generator;
 mod shows;
 mod simulation;

@@ -1,4 +1,6 @@
 // An online policy: first come, first gone.
+#![tactic(auto)]
+
 ghost use Rattle.std.specs.Prelude.{◌≡◌, ◌<◌, ◌≤◌, false, [], length, take, IfOk, vec_len, MatchOption};
 ghost use Rattle.paging.specs.Rules.{fifo_policy};
 ghost use Rattle.policies.specs.Onward.{onward, is_capacity, Does};

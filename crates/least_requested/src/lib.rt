@@ -1,4 +1,6 @@
 // An online policy: the least requested goes.
+#![tactic(auto)]
+
 ghost use Rattle.std.specs.Prelude.{◌≡◌, ◌^◌, ◌<◌, ◌≤◌, true, false, [], length, take, IfOk, vec_len, MatchOption};
 ghost use Rattle.paging.specs.Failing.{pages_in, least_requested_goes};
 ghost use Rattle.paging.specs.Lists.{distinct};

@@ -1,4 +1,6 @@
 // An LRU cache on two lent rows of numbers: the cache row, which a caller reads, and the index row that finds its pages.
+#![tactic(auto)]
+
 mod checks;
 mod plays;
 mod refusals;

@@ -1,6 +1,8 @@
 // The arguments of a program: which options they are, with their values, and which file; or what is wrong with them.
 //
 // `Given::read` goes through the arguments. specs/Arguments.antt says what each means.
+#![tactic(auto)]
+
 mod given;
 mod names;
 mod values;

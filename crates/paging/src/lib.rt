@@ -1,5 +1,7 @@
 // What is claimed about paging, and its proofs. No code: each function below says by its contract that a theorem of specs/ holds, and
 // its file in proofs/ cites the lemma that shows it.
+#![tactic(auto)]
+
 ghost use Rattle.paging.specs.Claims.{Competitive, CompetitiveFrom, Inclusion, Recency, Split, FewPages, ColdFetches, Compulsory, Retained};
 ghost use Rattle.paging.specs.Claims.{StackDistance, BeladyLeast, BeladyFeasible, AnyFurthest, BeladyFewest, OnePass};
 ghost use Rattle.paging.specs.Worked.{Worked};

@@ -1,5 +1,7 @@
 // The curve of a report as a picture: an SVG file, as text. Where things stand on it is in specs/Scaled.antt, what they look like in
 // specs/Drawn.antt, and the whole in specs/Pictured.antt.
+#![tactic(auto)]
+
 mod axes;
 mod lines;
 mod marks;

@@ -1,5 +1,7 @@
 // Plays a trace: an LRU cache serves each request, a line says what became of it, and a report follows. Or turns a trace from text to bytes,
 // or back.
+#![tactic(auto)]
+
 mod closes;
 mod faults;
 mod help;

@@ -1,4 +1,6 @@
 // What is said of days that play is given: the worked one, and those at the edges.
+#![tactic(auto)]
+
 use day::Day;
 use std::{fmt, io};
 

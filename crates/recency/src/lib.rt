@@ -4,6 +4,8 @@
 // that finds the slot of a page. `clear` makes an empty row, `request` asks for a page, `fill` brings one in that is known to be
 // new, `contains` only looks, and `list` tells the pages in order. What a row stands for is `pages` of specs/Row.antt; that it
 // is well formed, `Sound` of specs/Sound.antt.
+#![tactic(auto)]
+
 mod layout;
 mod ring;
 mod table;

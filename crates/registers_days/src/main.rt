@@ -1,4 +1,6 @@
 // A day from a text, one page number a line, played by LRU and by the least requested side by side, and its summary.
+#![tactic(auto)]
+
 use least_requested::LeastRequested;
 use policies::{Lru, Policy};
 use std::io::Read;

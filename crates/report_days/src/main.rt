@@ -1,4 +1,6 @@
 // The report on days worked out by hand, at the edges of what is taken, and on random days beside Belady's rule at each capacity.
+#![tactic(auto)]
+
 mod caches;
 mod generator;
 mod shows;

@@ -1,5 +1,7 @@
 // Short days of several kinds beside every feasible schedule: that the report's second number is the fewest of all, and that LRU keeps its
 // bound. One line for each kind of day and number of places; it ends with a fault where anything differs.
+#![tactic(auto)]
+
 mod compares;
 mod distances;
 mod generator;

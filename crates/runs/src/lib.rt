@@ -1,4 +1,6 @@
 // A whole run of the adversary against a policy, and the schedule beside it.
+#![tactic(auto)]
+
 mod counts;
 mod schedule;
 mod whole;

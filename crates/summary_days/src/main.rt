@@ -1,4 +1,6 @@
 // The paragraph on days worked out by hand, at the edges of what is taken, and where there is none; and pictures of some.
+#![tactic(auto)]
+
 mod pictures;
 
 use pictures::show_pictures;

@@ -1,4 +1,6 @@
 // Texts and the pages that they name, the way from bytes to text and back, and arguments with what is said of them.
+#![tactic(auto)]
+
 mod arguments;
 mod texts;
 

@@ -5,6 +5,8 @@
 // bytes.
 //
 // A challenge is set by seven bytes (`read_settings`), and ends in a line with its counts (`Totals`).
+#![tactic(auto)]
+
 mod headers;
 mod lines;
 mod requests;

@@ -1,4 +1,6 @@
 // What is said of wrong arguments. specs/Messages.antt has the words.
+#![tactic(auto)]
+
 mod messages;
 
 pub use messages::{place_at, tell_wrong};
