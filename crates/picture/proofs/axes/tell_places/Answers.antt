@@ -12,7 +12,7 @@ middle-requires c =
 pub loop-i-preserved : goal.loop-i-preserved
 loop-i-preserved c =
     told_more (places_piece c.args.m c.args.apart) _ _ _ _ c.loop-i.invariant _ c.loop-i-test.true
-    (places_told c.args.m c.args.apart c.loop-i.i c.middle.result _ _ c.middle.ensures.value c.in-ok-write.ensures.bytes)
+    (places_told c.args.m c.args.apart c.loop-i.i c.middle.result _ _ c.middle.ensures.value c.in_ok-write.ensures.bytes)
 
 pub returns : goal.returns
 returns c =

@@ -6,5 +6,5 @@ pub returns : goal.returns
 returns c =
     record {
       lines = λ ok. line_told _ _ _ _ c.args.start c.args.row.now c.args.from c.args.top c.args.m
-          c.in-ok-write.ensures.bytes (c.in-ok-tell-steps.ensures.lines refl) c.in-ok-write-2.ensures.bytes;
+          c.in_ok-write.ensures.bytes (c.in_ok-tell_steps.ensures.lines refl) c.in_ok-write-2.ensures.bytes;
     }

@@ -13,7 +13,7 @@ loop-c-preserved c =
     told_more (steps_piece c.args.row.now c.args.from c.args.top c.args.m) _ _ _ _ c.loop-c.invariant _ c.loop-c-test.true
     (step_told c.args.row.now c.args.from c.args.top c.args.m c.loop-c.c _ _ _
     c.height-before.ensures.value c.height-here.ensures.value _ _ c.if-before-here.false c.edge.ensures.value
-    c.in-ok-write.ensures.bytes)
+    c.in_ok-write.ensures.bytes)
 
 pub returns : goal.returns
 returns c =

@@ -14,5 +14,5 @@ returns c =
     record {
       lines = λ ok. mark_told _ _ _ c.args.row.now c.args.top c.args.m c.args.k _ _ _ _ (omega arith) (omega arith)
           c.middle-x.ensures.value c.height-above.ensures.value c.height-below.ensures.value c.label-label.ensures.value
-          c.in-ok-write.ensures.bytes c.in-ok-write-2.ensures.bytes;
+          c.in_ok-write.ensures.bytes c.in_ok-write-2.ensures.bytes;
     }

@@ -6,5 +6,5 @@ pub returns : goal.returns
 returns c =
     record {
       lines = λ ok. frame_told _ _ _ _ c.args.most c.args.m _ _ _ c.top.ensures.value c.step.ensures.value c.step-2.ensures.value
-          c.in-ok-write.ensures.bytes (c.in-ok-tell-fetches.ensures.lines refl) (c.in-ok-tell-places.ensures.lines refl);
+          c.in_ok-write.ensures.bytes (c.in_ok-tell_fetches.ensures.lines refl) (c.in_ok-tell_places.ensures.lines refl);
     }

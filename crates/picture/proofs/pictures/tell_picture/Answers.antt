@@ -6,6 +6,6 @@ pub returns : goal.returns
 returns c =
     record {
       lines = λ ok. picture_told _ _ _ _ _ _ c.args.row.now c.args.m c.args.k c.min-most.result _ (omega arith) c.top-top.ensures.value
-          (c.in-ok-tell-frame.ensures.lines refl) (c.in-ok-tell-lines.ensures.lines refl) (c.in-ok-tell-mark.ensures.lines refl)
-          c.in-ok-write.ensures.bytes c.in-ok-write-2.ensures.bytes;
+          (c.in_ok-tell_frame.ensures.lines refl) (c.in_ok-tell_lines.ensures.lines refl) (c.in_ok-tell_mark.ensures.lines refl)
+          c.in_ok-write.ensures.bytes c.in_ok-write-2.ensures.bytes;
     }

@@ -2,5 +2,5 @@ use Rattle.std.proofs.Common.{arith}
 use Rattle.picture.proofs.Bounded.{height_fits}
 use Rattle.picture.proofs.scales.height.Goals as goal
 
-pub overflow-sub-result : goal.overflow-sub-result
-overflow-sub-result c = height_fits c.args.top c.min.result (omega arith)
+pub overflow_sub-result : goal.overflow_sub-result
+overflow_sub-result c = height_fits c.args.top c.min.result (omega arith)

@@ -5,7 +5,7 @@ use Rattle.recency.proofs.uses.evict.Goals as goal
 pub unlink-requires : goal.unlink-requires
 unlink-requires c =
     let t = oldest_taken c.args.k c.args.row.now c.requires.sound c.requires.full in
-    record { slot-within = omega arith; next_within = omega arith; prev-within = omega arith }
+    record { slot_within = omega arith; next_within = omega arith; prev_within = omega arith }
 
 pub admit-requires : goal.admit-requires
 admit-requires c =

@@ -13,7 +13,7 @@ touch-requires c =
     let low : 1 ≤ s = omega arith in
     let t = hit_taken c.args.k c.args.row.now c.requires.sound s low (c.probe-slot.ensures.found low).0 in
     let long = c.requires.sound.sized.long in
-    record { slot-within = omega arith; next_within = omega arith; prev-within = omega arith; head-within = omega arith }
+    record { slot_within = omega arith; next_within = omega arith; prev_within = omega arith; head_within = omega arith }
 
 pub returns-then-slot-ne0 : goal.returns-then-slot-ne0
 returns-then-slot-ne0 c =

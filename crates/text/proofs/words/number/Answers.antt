@@ -7,7 +7,7 @@ use Rattle.text.proofs.words.number.Goals as goal
 pub loop-i-preserved : goal.loop-i-preserved
 loop-i-preserved c =
     let more = at_drop_more (number_from c.loop-i.number) c.args.word.now c.loop-i.i 0 c.loop-i-test.true in
-    let went = c.with-digit-number.ensures.value in
+    let went = c.with_digit-number.ensures.value in
     rw went (sym more ∙ c.loop-i.invariant)
 
 pub returns : goal.returns

@@ -4,10 +4,10 @@ use Rattle.text.specs.Readers.{state_of}
 use Rattle.text.proofs.Told.{told_some, ends_bad, ends_page}
 use Rattle.text.proofs.readers.Reader.end_word.Goals as goal
 
-pub returns-then-value-ge-NO-PAGE : goal.returns-then-value-ge-NO-PAGE
-returns-then-value-ge-NO-PAGE c =
+pub returns-then-value-ge-NO_PAGE : goal.returns-then-value-ge-NO_PAGE
+returns-then-value-ge-NO_PAGE c =
     let some = told_some c.args.self.now.word c.args.self.now.length (omega arith) c.if-found.true in
-    let ends = ends_bad (state_of c.args.self.now) c.args.line c.args.comment some c.if-value-ge-NO-PAGE.true in
+    let ends = ends_bad (state_of c.args.self.now) c.args.line c.args.comment some c.if-value-ge-NO_PAGE.true in
     record { value = ends.0; after = ends.1 }
 
 pub returns-then-found-2 : goal.returns-then-found-2

@@ -6,7 +6,7 @@ use Rattle.text.proofs.readers.Reader.put.Goals as goal
 pub returns-then-self-lt-KEPT : goal.returns-then-self-lt-KEPT
 returns-then-self-lt-KEPT c =
     let told = told_more c.args.self.now.word c.args.self.now.length (omega arith) c.args.byte c.if-self-lt-KEPT.true in
-    record { after = rw (told, c.with-digit-self.ensures.value) }
+    record { after = rw (told, c.with_digit-self.ensures.value) }
 
 pub returns-else-self-lt-KEPT : goal.returns-else-self-lt-KEPT
 returns-else-self-lt-KEPT c =

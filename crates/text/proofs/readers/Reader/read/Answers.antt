@@ -4,8 +4,8 @@ use Rattle.std.proofs.lemmas.List.{length-take, length-take-le, get_or-take, len
 use Rattle.text.proofs.Pieces.{left_none, left_page, left_known, behind, read_pages, read_known}
 use Rattle.text.proofs.readers.Reader.read.Goals as goal
 
-pub loop-i-preserved-in-default : goal.loop-i-preserved-in-default
-loop-i-preserved-in-default c =
+pub loop-i-preserved-in_default : goal.loop-i-preserved-in_default
+loop-i-preserved-in_default c =
     let m = length c.args.pages.now in
     let room : c.loop-i.i < m = omega arith in
     let within : c.loop-i.i < length (take m c.args.bytes.now) = omega (arith, length-take m c.args.bytes.now) in
@@ -14,7 +14,7 @@ loop-i-preserved-in-default c =
     let count : c.loop-i.count ≤ c.loop-i.i + 1 = omega arith in (
       count,
       c.loop-i.invariant.1,
-      left_none _ _ _ within read _ _ went _ _ c.in-default.ensures.value c.loop-i.invariant.2,
+      left_none _ _ _ within read _ _ went _ _ c.in_default.ensures.value c.loop-i.invariant.2,
       c.loop-i.invariant.3,
       left_known _ _ _ within read _ _ went _ c.loop-i.invariant.4,
     )

@@ -11,6 +11,6 @@ returns c =
     let few : c.min.result - 0 ≡ min n 40 = omega arith in
     record {
       after = λ ok.
-          bad_told word n (omega arith) (state_of c.args.self.now) (c.min.result - 0) _ _ _ _ _ refl few c.in-ok-write.ensures.bytes
-          (c.in-ok-tell-bytes.ensures.after refl) c.dots-more.ensures.value c.in-ok-write-2.ensures.bytes;
+          bad_told word n (omega arith) (state_of c.args.self.now) (c.min.result - 0) _ _ _ _ _ refl few c.in_ok-write.ensures.bytes
+          (c.in_ok-tell_bytes.ensures.after refl) c.dots-more.ensures.value c.in_ok-write-2.ensures.bytes;
     }
