@@ -3,21 +3,21 @@ use Rattle.lru_cache.specs.Rows.{capacity, cached}
 use Rattle.lru_cache.proofs.Faults.{fault_unshaped, fault_overfull, fault_pages, fine}
 use Rattle.lru_cache.proofs.checks.check.Goals as goal
 
-pub returns-in-default : goal.returns-in-default
-returns-in-default c = record { cases = fault_unshaped _ _ c.in-default.ensures.cases }
+pub returns-in_default : goal.returns-in_default
+returns-in_default c = record { cases = fault_unshaped _ _ c.in_default.ensures.cases }
 
 pub returns-then-n-k : goal.returns-then-n-k
 returns-then-n-k c =
     let s = c.in-Some.ensures.cases in
     record { cases = fault_overfull _ _ s.is (omega arith) }
 
-pub returns-in-Some-first-fault : goal.returns-in-Some-first-fault
-returns-in-Some-first-fault c =
+pub returns-in-Some-first_fault : goal.returns-in-Some-first_fault
+returns-in-Some-first_fault c =
     let s = c.in-Some.ensures.cases in
     let row = c.args.cache.now in
     let few : get_or row 1 0 ≤ capacity row = omega arith in
     let same : 2 + get_or row 1 0 - 2 ≡ get_or row 1 0 = omega arith in
-    record { cases = fault_pages row c.args.index-len s.is few ∙ sym (rw same at c.in-Some-first-fault.ensures.value) }
+    record { cases = fault_pages row c.args.index_len s.is few ∙ sym (rw same at c.in-Some-first_fault.ensures.value) }
 
 pub returns-in-None : goal.returns-in-None
 returns-in-None c =
@@ -38,6 +38,6 @@ returns-in-None c =
         few = omega arith;
         once = f.once;
         small = f.small;
-        none = fault_pages row c.args.index-len s.is few ∙ none;
+        none = fault_pages row c.args.index_len s.is few ∙ none;
       };
     }
