@@ -13,13 +13,13 @@ word_at words i element word within is told = told ∙ ap string_bytes is ∙ sy
 pub returns-in-Err : goal.returns-in-Err
 returns-in-Err c =
     let within : c.loop-i.i < length (map string_bytes c.args.words.now) = omega (arith, length-map c.args.words.now string_bytes) in
-    let word = word_at _ _ _ _ c.loop-i-test.true c.index-words-i.is c.as-str.ensures.value in
+    let word = word_at _ _ _ _ c.loop-i-test.true c.index-words-i.is c.as_str.ensures.value in
     record { value = read_wrong _ _ _ _ _ c.loop-i.invariant _ _ within word c.in-Err.ensures.value }
 
 pub loop-i-preserved : goal.loop-i-preserved
 loop-i-preserved c =
     let within : c.loop-i.i < length (map string_bytes c.args.words.now) = omega (arith, length-map c.args.words.now string_bytes) in
-    let word = word_at _ _ _ _ c.loop-i-test.true c.index-words-i.is c.as-str.ensures.value in
+    let word = word_at _ _ _ _ c.loop-i-test.true c.index-words-i.is c.as_str.ensures.value in
     read_more _ _ _ _ _ c.loop-i.invariant _ _ within word c.in-Ok.ensures.value
 
 pub returns : goal.returns
