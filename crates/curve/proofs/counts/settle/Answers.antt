@@ -2,8 +2,8 @@ use Rattle.std.proofs.Common.{arith}
 use Rattle.curve.proofs.Sums.{settled_none, settled_fits, settled_more}
 use Rattle.curve.proofs.counts.settle.Goals as goal
 
-pub overflow-sub-left : goal.overflow-sub-left
-overflow-sub-left c = settled_fits _ _ _ _ _ c.loop-i.invariant c.requires.enough c.loop-i-test.true
+pub overflow_sub-left : goal.overflow_sub-left
+overflow_sub-left c = settled_fits _ _ _ _ _ c.loop-i.invariant c.requires.enough c.loop-i-test.true
 
 pub loop-i-init : goal.loop-i-init
 loop-i-init c = settled_none c.args.hits.now c.args.requests

@@ -9,16 +9,16 @@ loop-page-init c =
     let new = c.new-stack.ensures in
     (omega (arith, new.len), refl, pass_none c.args.hits.now c.args.trace.now _ c.requires.none new.none)
 
-pub loop-page-preserved-in-default : goal.loop-page-preserved-in-default
-loop-page-preserved-in-default c =
+pub loop-page-preserved-in_default : goal.loop-page-preserved-in_default
+loop-page-preserved-in_default c =
     let inv = c.loop-page.invariant in
-    let r = c.in-default.ensures in
+    let r = c.in_default.ensures in
     let m = length c.args.hits.now in
     let next = stacked c.request.new.self in
     (r.few, inv.1, pass_absent _ _ _ _ _ inv.2 c.loop-page-test.true refl m inv.1 next r.after r.finds)
 
-pub overflow-add-hits : goal.overflow-add-hits
-overflow-add-hits c =
+pub overflow_add-hits : goal.overflow_add-hits
+overflow_add-hits c =
     let inv = c.loop-page.invariant in
     let r = c.in-Some.ensures in
     let m = length c.args.hits.now in
