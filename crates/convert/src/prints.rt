@@ -24,5 +24,6 @@ pub fn unpack_header(header: Header, text: &mut String) -> fmt::Result
 {
     let places = header.capacity;
     let reported = header.reported;
-    writeln!(text, "# places {places} report {reported}")
+    writeln!(text, "# places {places} report {reported}")?;
+    Ok(())
 }
