@@ -33,7 +33,8 @@ pub fn tell_summary(requests: &[u64], total: u64, k: usize, text: &mut String) -
         Ok(summary) => summary::tell(summary, text),
         Err(refusal) => {
             let line = Line::Refused(refusal.number(), refusal.place());
-            writeln!(text, "{line}")
+            writeln!(text, "{line}")?;
+            Ok(())
         }
     }
 }

@@ -43,7 +43,8 @@ impl From<fmt::Error> for Stop {
 fn add(text: &mut String, line: Line) -> fmt::Result
     ensures bytes { OnOk result (string_bytes text.new ≡ string_bytes text.old ++ (line_bytes line ++ (10 ∷ []))) }
 {
-    writeln!(text, "{line}")
+    writeln!(text, "{line}")?;
+    Ok(())
 }
 
 // One request, whose line is added to the text.

@@ -29,7 +29,8 @@ fn tell_refusal(refusal: Refusal, text: &mut String) -> fmt::Result
     ensures lines { is_ok result ≡ true → string_bytes text.new ≡ string_bytes text.old ++ refused_line (number_of refusal) (place_of refusal) }
 {
     let line = Line::Refused(refusal.number(), refusal.place());
-    writeln!(text, "{line}")
+    writeln!(text, "{line}")?;
+    Ok(())
 }
 
 // Adds the report on m capacities of a trace of `total` requests, which `first` begins with as far as it goes.

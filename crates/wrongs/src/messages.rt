@@ -77,24 +77,28 @@ pub fn tell_wrong(wrong: Wrong, program: Program, word: &str, text: &mut String)
             write!(
                 text,
                 "{program}: unknown option '{word}' (see {program} --help)"
-            )
+            )?;
+            Ok(())
         }
         Wrong::Value(option, _) => {
             let name = name_of(option);
             let wanted = wants(option);
-            write!(text, "{program}: {name} needs {wanted}, not '{word}'")
+            write!(text, "{program}: {name} needs {wanted}, not '{word}'")?;
+            Ok(())
         }
         Wrong::Missing(option) => {
             let name = name_of(option);
             let wanted = wants(option);
-            write!(text, "{program}: {name} needs {wanted}")
+            write!(text, "{program}: {name} needs {wanted}")?;
+            Ok(())
         }
         Wrong::SecondFile(i) => {
             let one = at_most_one(i);
             write!(
                 text,
                 "{program}: argument {i}: there may be one {one} at most"
-            )
+            )?;
+            Ok(())
         }
         Wrong::Together(a, b) => {
             let first = name_of(a);

@@ -1,10 +1,10 @@
 use Rattle.wrongs.proofs.Tellings.{together_told}
 use Rattle.wrongs.proofs.messages.tell_wrong.Goals as goal
 
-pub returns-in-ok-write : goal.returns-in-ok-write
-returns-in-ok-write c =
+pub returns-in_ok-write-in-Together : goal.returns-in_ok-write-in-Together
+returns-in_ok-write-in-Together c =
     record {
       after = λ ok.
-          together_told _ _ _ _ _ _ _ _ _ _ c.in-Together.is c.program-name-program.ensures.value c.name-of-first.ensures.value
-          c.name-of-second.ensures.value c.in-ok-write.ensures.bytes;
+          together_told _ _ _ _ _ _ _ _ _ _ c.in-Together.is c.program_name-program.ensures.value c.name_of-first.ensures.value
+          c.name_of-second.ensures.value c.in_ok-write-in-Together.ensures.bytes;
     }
