@@ -4,15 +4,15 @@ use Rattle.policies.specs.Onward.{onward}
 use Rattle.policies.proofs.Opened.{opened}
 use Rattle.policies.proofs.recent.LruPolicy.shown.Goals as goal
 
-pub pages-of-requires : goal.pages-of-requires
-pages-of-requires c =
+pub pages_of-requires : goal.pages_of-requires
+pages_of-requires c =
     let s = c.args.self.now in
     let o = opened s.k s.cache.items s.rows.items s.formed s.closed in
-    rw c.as-slice.ensures.value (record { long = omega (arith, o.size); few = o.few })
+    rw c.as_slice.ensures.value (record { long = omega (arith, o.size); few = o.few })
 
 pub returns : goal.returns
 unfolding onward
 returns c =
     let s = c.args.self.now in
     let o = opened s.k s.cache.items s.rows.items s.formed s.closed in
-    record { value = c.pages_of.ensures.value ∙ ap cached c.as-slice.ensures.value ∙ o.shows }
+    record { value = c.pages_of.ensures.value ∙ ap cached c.as_slice.ensures.value ∙ o.shows }
