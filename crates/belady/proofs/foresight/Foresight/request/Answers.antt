@@ -18,7 +18,7 @@ returns c =
     let kept = c.requires.ready in
     let at = c.find-at.ensures.value in
     let is-next = c.requires.next c.args.i c.requires.within in
-    let place = c.place-for-end.ensures.value in
+    let place = c.place_for-end.ensures.value in
     let gone = absent _ _ _ _ _ _ kept c.requires.within (omega arith) (omega arith) _ is-next _ at c.if-at-self.false _ place in
     let s =
     stepped_comes _ _ _ _ _ _ kept c.requires.within (omega arith) (omega arith) _ is-next _ at c.if-at-self.false _ place _ _ _

@@ -19,8 +19,8 @@ returns-then-at-self c =
           (omega arith) (omega arith) c.if-at-self.true c.if-at-hits.false;
     }
 
-pub overflow-add-hits : goal.overflow-add-hits
-overflow-add-hits c =
+pub overflow_add-hits : goal.overflow_add-hits
+overflow_add-hits c =
     let far = c.sift-at.ensures.after.far in
     omega (arith, counter_fits _ _ _ _ _ _ c.requires.row c.requires.within c.sift-at.result.0 (omega arith))
 
