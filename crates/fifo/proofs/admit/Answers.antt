@@ -17,4 +17,4 @@ returns c =
     let z : c.args.n - 0 ≡ c.args.n = omega arith in
     let p = c.find.ensures.value ∙ ap (λ (m : ℕ). place c.args.page (take m row)) z in
     let e = comes row c.args.n c.args.page c.requires.few last (omega arith) c.requires.some c.min-last.ensures in
-    record { few = omega arith; after = ap (take (last + 1)) c.put-first.ensures.after ∙ e }
+    record { few = omega arith; after = ap (take (last + 1)) c.put_first.ensures.after ∙ e }

@@ -9,7 +9,7 @@ returns c =
     let v = c.args.self.now.pages in
     let n = c.args.self.now.count in
     let page = c.args.page in
-    let s = c.as-mut-slice.ensures in
+    let s = c.as_mut_slice.ensures in
     let filled = with_items_is v c.admit-self.new.row (c.admit-self.auto.row ∙ s.len) in
     let step =
     ap (take c.admit-self.result) filled

@@ -8,4 +8,4 @@ returns c =
     let s = c.args.self.now in
     let n = s.count in
     let z : n - 0 ≡ n = omega arith in
-    record { value = ap (take (n - 0)) c.as-slice.ensures.value ∙ ap (λ (m : ℕ). take m s.pages.items) z }
+    record { value = ap (take (n - 0)) c.as_slice.ensures.value ∙ ap (λ (m : ℕ). take m s.pages.items) z }

@@ -13,4 +13,4 @@ returns c =
     let a = length-take n s.pages.items in
     let b = length-take n s.counts.items in
     let level : length (take n s.counts.items) ≡ length (take n s.pages.items) = omega (arith, s.pages.ok.0, s.counts.ok.0, s.level, s.few) in
-    record { value = rw z (ap (take n) c.as-slice.ensures.value ∙ sym (pages_paired (take n s.pages.items) (take n s.counts.items) level)) }
+    record { value = rw z (ap (take n) c.as_slice.ensures.value ∙ sym (pages_paired (take n s.pages.items) (take n s.counts.items) level)) }
