@@ -18,5 +18,5 @@ returns c =
     let high : c.args.place ≤ length (map string_bytes c.args.words.now) = omega (arith, length-map c.args.words.now string_bytes) in
     let within : c.args.place - 1 < length c.args.words.now = omega arith in
     let element = c.index-words-place.result in
-    let is = c.as-str.ensures.value ∙ ap string_bytes c.index-words-place.is ∙ sym (get_or-map string_bytes c.args.words.now (c.args.place - 1) element [] within) in
-    record { value = found_at (map string_bytes c.args.words.now) c.args.place c.as-str.result.now low high is }
+    let is = c.as_str.ensures.value ∙ ap string_bytes c.index-words-place.is ∙ sym (get_or-map string_bytes c.args.words.now (c.args.place - 1) element [] within) in
+    record { value = found_at (map string_bytes c.args.words.now) c.args.place c.as_str.result.now low high is }
