@@ -14,9 +14,9 @@ pub fn ask<P: Policy>(
     challenge: Challenge,
     row: &mut [u64],
 ) -> Result<Challenge, Refusal>
-    ensures stepped { IfOk result (λ c. Stepped challenge row.old (policy keeper.old []) c row.new) }
-    ensures served { IfOk result (λ c. Led (policy keeper.old) (c.last ∷ []) (policy keeper.new)) }
-    ensures refused { IfErr result (λ e. if_long challenge row.old (refusal_in challenge row.old (policy keeper.old [])) ≡ Some e) }
+    ensures stepped { IfOk result (λ c. Stepped challenge row.old (P.policy keeper.old []) c row.new) }
+    ensures served { IfOk result (λ c. Led (P.policy keeper.old) (c.last ∷ []) (P.policy keeper.new)) }
+    ensures refused { IfErr result (λ e. if_long challenge row.old (refusal_in challenge row.old (P.policy keeper.old [])) ≡ Some e) }
     ensures same { OnErr result ((row.new ≡ row.old) × (keeper.new ≡ keeper.old)) }
 {
     let next = challenge.step(row, keeper.shown())?;

@@ -56,7 +56,7 @@ returns c =
     let m = c.requires.marked in
     let r = c.request.ensures in
     let long = c.requires.long in
-    let unmarked = no_hit_absent k (recent.pages c.args.seen.now) page c.request.result r.value c.in-default.not-Hit in
+    let unmarked = no_hit_absent k (recent.pages c.args.seen.now) page c.request.result r.value c.in_default.not-Hit in
     let absent = sym (m.same page) ∙ unmarked in
     let after = note_after row k noted page long (omega arith) in
     record {

@@ -24,7 +24,7 @@ returns c =
     let l = length-take c.args.noted (drop (k + 1) row) in
     let list = take (k + 1) row in
     let a = c.add-n.ensures in
-    let b = c.add-list.ensures in
+    let b = c.add_list.ensures in
     let few : length seen ≤ h = omega arith in
     let joined : take h (once_each (take c.add-n.result (drop (k + 1) c.add-n.new.row)) (take (k + 1) c.add-n.new.row)) ≡ take h (once_each (take h (once_each seen (last ∷ []))) list) =
     ap (λ (xs : List ℕ). take h (once_each xs (take (k + 1) c.add-n.new.row))) a.after ∙ ap (λ (xs : List ℕ). take h (once_each (take h (once_each seen (last ∷ []))) xs)) a.front in

@@ -16,5 +16,5 @@ returns-in-Some c =
 
 pub returns : goal.returns
 returns c =
-    let f = c.in-default.ensures in
+    let f = c.in_default.ensures in
     record { cases = aimed c.args.self c.args.row.now c.args.shown.now (recent.pages c.fault.new.seen) (f.seen refl).same (sym f.value) c.choose.result c.choose.ensures.cases }

@@ -10,7 +10,7 @@ returns c =
     let row = c.args.row.now in
     let end : ended self row ≡ true = grind (arith, nat_tests) in
     let z : self.listed - 0 ≡ self.listed = omega arith in
-    let w = c.write-held.ensures in
+    let w = c.write_held.ensures in
     let is : held (take (self.listed - 0) row) c.new_at.result ≡ cache_in self row c.args.i =
     ap (λ (n : ℕ). held (take n row) c.new_at.result) z ∙ ap (held (take self.listed row)) c.new_at.ensures.value in
     record { cases = (end, w.value ∙ ap length is); after = rw end (w.after ∙ ap (written c.args.out.now) is) }

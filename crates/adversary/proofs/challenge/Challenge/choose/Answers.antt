@@ -13,7 +13,7 @@ returns-then-listed-self c =
     let l = length_listed self row c.requires.long in
     let a = aim_pick self.k (position_in self row) (recent.pages c.args.seen.now) (omega arith) in
     let z : self.listed - 0 ≡ self.listed = omega arith in
-    let v : c.first-unmarked.result ≡ first_missing (take (self.listed - 0) row) (recent.pages c.args.seen.now) = c.first-unmarked.ensures.value in
+    let v : c.first_unmarked.result ≡ first_missing (take (self.listed - 0) row) (recent.pages c.args.seen.now) = c.first_unmarked.ensures.value in
     record { cases = record { none = a.0; page_is = rw z at v ∙ a.1; left = λ le. absurd (omega arith) } }
 
 pub returns-then-self-eq4294967296 : goal.returns-then-self-eq4294967296

@@ -4,20 +4,20 @@ use Rattle.adversary.proofs.challenge.Challenge.step_on.Goals as goal
 
 pub enter-requires : goal.enter-requires
 enter-requires c =
-    let a = c.in-ok-page.ensures.cases in
+    let a = c.in_ok-page.ensures.cases in
     record {
       long = omega arith;
       room = omega arith;
-      new = aimed_new c.args.self c.args.row.now c.args.shown.now c.in-ok-page.page a c.requires.long;
+      new = aimed_new c.args.self c.args.row.now c.args.shown.now c.in_ok-page.page a c.requires.long;
       shown = a.few;
     }
 
 pub returns : goal.returns
 returns c =
-    let a = c.in-ok-page.ensures.cases in
+    let a = c.in_ok-page.ensures.cases in
     let s = c.store.ensures in
     record {
       cases =
-          stepped c.args.self c.args.row.now c.args.shown.now c.in-ok-page.page a c.store.new.row c.enter.result
+          stepped c.args.self c.args.row.now c.args.shown.now c.in_ok-page.page a c.store.new.row c.enter.result
           c.enter.new.row s.front s.after s.beyond c.enter.ensures.moved;
     }
