@@ -12,19 +12,19 @@ tightest-tight-requires c =
       small = λ h low high. known_small _ _ _ c.requires.short c.requires.reported h low (omega arith);
     }
 
-pub overflow-mul-house : goal.overflow-mul-house
-overflow-mul-house c =
+pub overflow_mul-house : goal.overflow_mul-house
+overflow_mul-house c =
     let small = house_small _ _ _ c.requires.short c.requires.reported c.args.k c.requires.low c.requires.high in
     omega arith
 
-pub rounded-up-requires : goal.rounded-up-requires
-rounded-up-requires c =
+pub rounded_up-requires : goal.rounded_up-requires
+rounded_up-requires c =
     let house = house_small _ _ _ c.requires.short c.requires.reported c.args.k c.requires.low c.requires.high in
     let known = known_small _ _ _ c.requires.short c.requires.reported c.args.k c.requires.low c.requires.high in
     record { small = omega arith }
 
-pub overflow-mul-result : goal.overflow-mul-result
-overflow-mul-result c =
+pub overflow_mul-result : goal.overflow_mul-result
+overflow_mul-result c =
     let tight = c.tightest-tight.ensures.value in
     let known = known_small _ _ _ c.requires.short c.requires.reported c.tightest-tight.result tight.low (omega (arith, tight.high)) in
     let small = product_small c.args.k _ c.requires.high known in

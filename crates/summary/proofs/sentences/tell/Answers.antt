@@ -7,7 +7,7 @@ use Rattle.summary.proofs.sentences.tell.Goals as goal
 
 pub returns-then-s-eq0 : goal.returns-then-s-eq0
 unfolding paragraph
-returns-then-s-eq0 c = record { lines = λ ok. rw c.if-s-eq0.true c.in-ok-writeln.ensures.bytes }
+returns-then-s-eq0 c = record { lines = λ ok. rw c.if-s-eq0.true c.in_ok-writeln.ensures.bytes }
 
 pub returns : goal.returns
 unfolding paragraph
@@ -17,6 +17,6 @@ returns c =
     record {
       lines = λ ok. rw some
           (five_lines _ _ _ _ _ _ (line (Counts s)) (line (fetched_sentence s)) (line (Promised s)) (line (Tightest s)) (line (Needed s))
-          c.in-ok-writeln-2.ensures.bytes (rw c.fetched-fetched.ensures.value at c.in-ok-writeln-3.ensures.bytes) c.in-ok-writeln-4.ensures.bytes
-          c.in-ok-writeln-5.ensures.bytes c.in-ok-writeln-6.ensures.bytes);
+          c.in_ok-writeln-2.ensures.bytes (rw c.fetched-fetched.ensures.value at c.in_ok-writeln-3.ensures.bytes) c.in_ok-writeln-4.ensures.bytes
+          c.in_ok-writeln-5.ensures.bytes c.in_ok-writeln-6.ensures.bytes);
     }
