@@ -11,9 +11,9 @@ returns c =
     let first = c.args.first.now in
     let held = c.min-held.result in
     let long = length_requests bytes in
-    let total : c.saturating-add.result ≡ min (c.args.total + length (requests_in bytes)) (2 ^ 64 - 1) = c.saturating-add.ensures ∙ ap (λ (n : ℕ). min (c.args.total + n) (2 ^ 64 - 1)) (sym long) in
+    let total : c.saturating_add.result ≡ min (c.args.total + length (requests_in bytes)) (2 ^ 64 - 1) = c.saturating_add.ensures ∙ ap (λ (n : ℕ). min (c.args.total + n) (2 ^ 64 - 1)) (sym long) in
     record {
       value = total;
-      after = kept_more first (requests_in bytes) c.args.total held c.decode.result c.saturating-add.result (length first - held) (take (length first - held) (drop held first)) c.decode.new.out (omega arith) c.min-held.ensures refl refl (c.decode.ensures.value ∙ ap (λ (n : ℕ). min n (length (take (length first - held) (drop held first)))) (sym long)) c.decode.ensures.after total;
-      small = requests_small bytes c.type-inv.bytes;
+      after = kept_more first (requests_in bytes) c.args.total held c.decode.result c.saturating_add.result (length first - held) (take (length first - held) (drop held first)) c.decode.new.out (omega arith) c.min-held.ensures refl refl (c.decode.ensures.value ∙ ap (λ (n : ℕ). min n (length (take (length first - held) (drop held first)))) (sym long)) c.decode.ensures.after total;
+      small = requests_small bytes c.ok.bytes;
     }

@@ -12,7 +12,7 @@ answer-requires c =
     let e = all_decoded _ _ _ _ c.decode-count.ensures.value c.decode-count.ensures.after fits in
     record {
       ready = c.requires.ready;
-      small = ap first_wide e ∙ requests_small c.args.bytes.now c.type-inv.bytes;
+      small = ap first_wide e ∙ requests_small c.args.bytes.now c.type_inv.bytes;
       room = search rules;
     }
 

@@ -6,10 +6,10 @@ use Rattle.day.proofs.reports.tell_report.Goals as goal
 pub returns-then-total : goal.returns-then-total
 returns-then-total c =
     let text = string_bytes c.args.text.now in
-    record { lines = λ ok. c.tell-refusal.ensures.lines ok ∙ ap (λ (ls : List ℕ). text ++ ls) (sym (long_report _ c.args.total c.args.m c.if-total.true)) }
+    record { lines = λ ok. c.tell_refusal.ensures.lines ok ∙ ap (λ (ls : List ℕ). text ++ ls) (sym (long_report _ c.args.total c.args.m c.if-total.true)) }
 
-pub tell-row-requires : goal.tell-row-requires
-tell-row-requires c =
+pub tell_row-requires : goal.tell_row-requires
+tell_row-requires c =
     let same : c.args.total - 0 ≡ c.args.total = omega arith in
     let few : length (take c.args.total c.args.first.now) ≤ 4096 = omega (arith, length-take c.args.total c.args.first.now) in
     let r = rw same at c.in-Ok.ensures in
@@ -25,7 +25,7 @@ returns-in-Ok c =
     let few : length trace ≤ 4096 = omega (arith, length-take c.args.total c.args.first.now) in
     let r = rw same at c.in-Ok.ensures in
     record {
-      lines = λ ok. c.tell-row.ensures.lines ok
+      lines = λ ok. c.tell_row.ensures.lines ok
           ∙ ap (λ (ls : List ℕ). text ++ ls) (made_report trace c.args.total c.args.m short few c.requires.small 8192 (omega arith) _ _ (sym r.refused) r.says);
     }
 
@@ -38,6 +38,6 @@ returns-in-Err c =
     let few : length trace ≤ 4096 = omega (arith, length-take c.args.total c.args.first.now) in
     let r = rw same at c.in-Err.ensures in
     record {
-      lines = λ ok. c.tell-refusal-in-Err.ensures.lines ok
+      lines = λ ok. c.tell_refusal-in-Err.ensures.lines ok
           ∙ ap (λ (ls : List ℕ). text ++ ls) (no_report trace c.args.total c.args.m short few c.requires.small 8192 (omega arith) _ (sym r.refused));
     }

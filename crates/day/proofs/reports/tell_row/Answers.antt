@@ -9,7 +9,7 @@ loop-i-init c =
     ap (λ (n : ℕ). string_bytes c.args.text.now ++ row_lines c.args.row.now c.args.m 0 n) all
 
 pub loop-i-preserved : goal.loop-i-preserved
-loop-i-preserved c = row_more _ _ _ _ _ c.loop-i.invariant _ c.loop-i-test.true c.in-ok-writeln.ensures.bytes
+loop-i-preserved c = row_more _ _ _ _ _ c.loop-i.invariant _ c.loop-i-test.true c.in_ok-writeln.ensures.bytes
 
 pub returns : goal.returns
 returns c = record { lines = λ ok. row_done _ _ _ _ _ c.loop-i.invariant c.loop-i-test.false }
