@@ -10,7 +10,7 @@ use Rattle.adversary.proofs.rules.fault_after.Goals as goal
 pub first_odd-requires : goal.first_odd-requires
 first_odd-requires c =
     let k = c.args.k in
-    let e = cleared k c.args.seen.now c.clear.result c.clear.new.row c.requires.low c.requires.high c.requires.seen-room c.clear.ensures.value c.clear.ensures.after in
+    let e = cleared k c.args.seen.now c.clear.result c.clear.new.row c.requires.low c.requires.high c.requires.seen_room c.clear.ensures.value c.clear.ensures.after in
     record { few = omega arith; marked = c.mark.ensures.marked.sound; clear = marks_none k c.args.seen.now c.clear.new.row e }
 
 pub returns-then-shown-k : goal.returns-then-shown-k
