@@ -15,5 +15,5 @@ returns c =
     record {
       value = total;
       after = kept_more first (requests_in bytes) c.args.total held c.decode.result c.saturating_add.result (length first - held) (take (length first - held) (drop held first)) c.decode.new.out (omega arith) c.min-held.ensures refl refl (c.decode.ensures.value ∙ ap (λ (n : ℕ). min n (length (take (length first - held) (drop held first)))) (sym long)) c.decode.ensures.after total;
-      small = requests_small bytes c.ok.bytes;
+      small = requests_small bytes c.type_inv.bytes;
     }
