@@ -17,11 +17,11 @@ fn ask_all<P: Policy>(
     row: &mut [u64],
     requests: u64,
 ) -> Result<Challenge, Stopped>
-    requires begun { Against challenge.k challenge.h (policy keeper.old) 0 challenge row.old }
-    ensures against { IfOk result (λ c. Against challenge.k challenge.h (policy keeper.old) requests c row.new) }
-    ensures led { OnOk result (Led (policy keeper.old) (played challenge.k challenge.h (policy keeper.old) requests).history (policy keeper.new)) }
+    requires begun { Against challenge.k challenge.h (P.policy keeper.old) 0 challenge row.old }
+    ensures against { IfOk result (λ c. Against challenge.k challenge.h (P.policy keeper.old) requests c row.new) }
+    ensures led { OnOk result (Led (P.policy keeper.old) (played challenge.k challenge.h (P.policy keeper.old) requests).history (P.policy keeper.new)) }
     ensures far { IfErr result (λ s. s.after < requests) }
-    ensures halted { IfErr result (λ s. Halted challenge.k challenge.h (policy keeper.old) s.after s.refusal row.new (policy keeper.new)) }
+    ensures halted { IfErr result (λ s. Halted challenge.k challenge.h (P.policy keeper.old) s.after s.refusal row.new (P.policy keeper.new)) }
     ensures beyond { drop (3 * challenge.k + 1) row.new ≡ drop (3 * challenge.k + 1) row.old }
 {
     let mut challenge = challenge;
@@ -41,9 +41,9 @@ fn run_on<P: Policy>(
     rounds: u32,
     row: &mut [u64],
 ) -> Result<Counts, Stopped>
-    requires begun { Against challenge.k challenge.h (policy keeper.old) 0 challenge row.old }
-    ensures ran { IfOk result (λ s. Ran challenge.k challenge.h (policy keeper.old) rounds s row.new (policy keeper.new)) }
-    ensures broke { IfErr result (λ s. Broke challenge.k challenge.h (policy keeper.old) rounds s row.new (policy keeper.new)) }
+    requires begun { Against challenge.k challenge.h (P.policy keeper.old) 0 challenge row.old }
+    ensures ran { IfOk result (λ s. Ran challenge.k challenge.h (P.policy keeper.old) rounds s row.new (P.policy keeper.new)) }
+    ensures broke { IfErr result (λ s. Broke challenge.k challenge.h (P.policy keeper.old) rounds s row.new (P.policy keeper.new)) }
     ensures beyond { drop (3 * challenge.k + 1) row.new ≡ drop (3 * challenge.k + 1) row.old }
 {
     let requests = challenge.h as u64 + rounds as u64 * challenge.k as u64;
@@ -73,10 +73,10 @@ pub fn run<P: Policy>(
     rounds: u32,
     row: &mut [u64],
 ) -> Result<Counts, Stopped>
-    ensures ran { IfOk result (λ s. Ran k h (policy keeper.old) rounds s row.new (policy keeper.new)) }
-    ensures refused { IfErr result (λ s. MatchOption (unfit k h (length row.old)) (Broke k h (policy keeper.old) rounds s row.new (policy keeper.new)) (λ e. (s.refusal ≡ e) × (s.after ≡ 0) × (row.new ≡ row.old) × (keeper.new ≡ keeper.old))) }
+    ensures ran { IfOk result (λ s. Ran k h (P.policy keeper.old) rounds s row.new (P.policy keeper.new)) }
+    ensures refused { IfErr result (λ s. MatchOption (unfit k h (length row.old)) (Broke k h (P.policy keeper.old) rounds s row.new (P.policy keeper.new)) (λ e. (s.refusal ≡ e) × (s.after ≡ 0) × (row.new ≡ row.old) × (keeper.new ≡ keeper.old))) }
     ensures beyond { drop (3 * k + 1) row.new ≡ drop (3 * k + 1) row.old }
-    ensures proper { unfit k h (length row.old) ≡ None → Proper k (policy keeper.old) → h + rounds * (suc k - h) < 2 ^ 32 → is_ok result ≡ true }
+    ensures proper { unfit k h (length row.old) ≡ None → Proper k (P.policy keeper.old) → h + rounds * (suc k - h) < 2 ^ 32 → is_ok result ≡ true }
 {
     match Challenge::begin(k, h, row) {
         Ok(challenge) => run_on(keeper, challenge, rounds, row),
