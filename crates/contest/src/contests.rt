@@ -41,7 +41,7 @@ fn play_out<P: Policy, W: Write>(
     out: &mut W,
     text: &mut String,
 ) -> Result<Challenge, Fault>
-    ensures turned { IfOk result (λ c. Turned (policy keeper.old) n challenge row.old (policy keeper.new) c row.new) }
+    ensures turned { IfOk result (λ c. Turned (P.policy keeper.old) n challenge row.old (P.policy keeper.new) c row.new) }
 {
     let mut current = challenge;
     let mut left = n;
@@ -70,7 +70,7 @@ fn challenge<P: Policy, W: Write>(
 ) -> Result<(), Fault>
     requires high { k < 2 ^ 16 }
     requires few { rounds < 2 ^ 16 }
-    ensures led { OnOk result (Led (policy keeper.old) (history_after [] (adversary k h (policy keeper.old) rounds)) (policy keeper.new)) }
+    ensures led { OnOk result (Led (P.policy keeper.old) (history_after [] (adversary k h (P.policy keeper.old) rounds)) (P.policy keeper.new)) }
 {
     let mut row = vec![in heap; 0u64; 3 * k + 1]?;
     let begun = Challenge::begin(k, h, row.as_slice())?;

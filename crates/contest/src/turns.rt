@@ -54,10 +54,10 @@ fn turn<P: Policy>(
     row: &mut [u64],
     text: &mut String,
 ) -> Result<Challenge, Stop>
-    ensures stepped { IfOk result (λ c. Stepped challenge row.old (policy keeper.old []) c row.new) }
-    ensures served { IfOk result (λ c. Led (policy keeper.old) (c.last ∷ []) (policy keeper.new)) }
-    ensures line { IfOk result (λ c. string_bytes text.new ≡ string_bytes text.old ++ (line_bytes (said c.last (policy keeper.old []) (policy keeper.new [])) ++ (10 ∷ []))) }
-    ensures refused { IfErr result (λ s. Refused s (λ e. if_long challenge row.old (refusal_in challenge row.old (policy keeper.old [])) ≡ Some e)) }
+    ensures stepped { IfOk result (λ c. Stepped challenge row.old (P.policy keeper.old []) c row.new) }
+    ensures served { IfOk result (λ c. Led (P.policy keeper.old) (c.last ∷ []) (P.policy keeper.new)) }
+    ensures line { IfOk result (λ c. string_bytes text.new ≡ string_bytes text.old ++ (line_bytes (said c.last (P.policy keeper.old []) (P.policy keeper.new [])) ++ (10 ∷ []))) }
+    ensures refused { IfErr result (λ s. Refused s (λ e. if_long challenge row.old (refusal_in challenge row.old (P.policy keeper.old [])) ≡ Some e)) }
     ensures same { IfErr result (λ s. Refused s (λ _. (row.new ≡ row.old) × (keeper.new ≡ keeper.old) × (text.new ≡ text.old))) }
 {
     let next = ask(keeper, challenge, row)?;
@@ -74,8 +74,8 @@ pub fn play<P: Policy>(
     n: usize,
     text: &mut String,
 ) -> Result<Challenge, Stop>
-    ensures told { IfOk result (λ c. Told (policy keeper.old) n challenge row.old (string_bytes text.old) (policy keeper.new) c row.new (string_bytes text.new)) }
-    ensures refused { IfErr result (λ s. Refused s (λ e. Halted (policy keeper.old) n challenge row.old (string_bytes text.old) e (policy keeper.new) row.new (string_bytes text.new))) }
+    ensures told { IfOk result (λ c. Told (P.policy keeper.old) n challenge row.old (string_bytes text.old) (P.policy keeper.new) c row.new (string_bytes text.new)) }
+    ensures refused { IfErr result (λ s. Refused s (λ e. Halted (P.policy keeper.old) n challenge row.old (string_bytes text.old) e (P.policy keeper.new) row.new (string_bytes text.new))) }
 {
     let mut current = challenge;
     for _turn in 0..n {

@@ -4,6 +4,6 @@ use Rattle.contest.proofs.turns.play.Given as goal
 
 abbrev pub invariant-loop-turn : goal.invariant-loop-turn
 invariant-loop-turn g l =
-    Telling (g.P.Policy.policy l.initial.keeper) l.initial.current l.initial.row (string_bytes l.initial.text) l.-turn
+    Telling (g.P.Policy.policy l.initial.keeper) l.initial.current l.initial.row (string_bytes l.initial.text) l._turn
     (g.P.Policy.policy l.keeper) l.current l.row (string_bytes l.text)
     × (length l.row ≡ length l.initial.row)

@@ -6,8 +6,8 @@ use Rattle.contest.proofs.turns.turn.Goals as goal
 
 pub returns : goal.returns
 returns g c =
-    let a = c.in-ok-next.ensures in
-    let page = c.in-ok-next.next.last in
+    let a = c.in_ok-next.ensures in
+    let page = c.in_ok-next.next.last in
     let before = g.P.Policy.policy c.args.keeper.now [] in
     let shown = c.shown.result.now in
     let words =
@@ -18,7 +18,7 @@ returns g c =
     record {
       stepped = a.stepped;
       served = a.served;
-      line = c.in-ok-add.ensures.bytes ∙ ap (λ (l : Line). string_bytes c.args.text.now ++ (line_bytes l ++ (10 ∷ []))) words;
+      line = c.in_ok-add.ensures.bytes ∙ ap (λ (l : Line). string_bytes c.args.text.now ++ (line_bytes l ++ (10 ∷ []))) words;
       refused = tt;
       same = tt;
     }
