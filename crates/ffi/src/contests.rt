@@ -27,7 +27,7 @@ fn run<P: Policy>(
     requires low { 1 ≤ h }
     requires within { h ≤ k }
     requires high { k ≤ 4096 }
-    requires proper { Proper k (policy keeper.old) }
+    requires proper { Proper k (P.policy keeper.old) }
     ensures ended { Ended k h rounds counts.old result counts.new }
 {
     match runs::run(keeper, k, h, rounds as u32, row) {
