@@ -10,15 +10,24 @@ use faults::{Fault, tell};
 use help::HELP;
 use input::read_all;
 use options::{Given, Opt, Program};
+use std::process::ExitCode;
 use std::{fs, io};
 use trace::Settings;
 
-fn main(rt: HostRuntime) -> Result<(), Fault> {
-    match console::arguments(&rt) {
-        Ok(words) => run(&rt, words.as_slice()),
+fn main(rt: HostRuntime) -> ExitCode {
+    match answer(&rt) {
+        Ok(()) => ExitCode::SUCCESS,
+        Err(_) => ExitCode::FAILURE,
+    }
+}
+
+// What ends badly was told already, so that main has only to say that it did.
+fn answer(rt: &HostRuntime) -> Result<(), Fault> {
+    match console::arguments(rt) {
+        Ok(words) => run(rt, words.as_slice()),
         Err(e) => {
             let fault = Fault::Arguments(e);
-            let _ = tell(&rt, "", fault);
+            let _ = tell(rt, "", fault);
             Err(fault)
         }
     }

@@ -14,11 +14,20 @@ use fifo::Fifo;
 use least_requested::LeastRequested;
 use policies::Lru;
 use rounds::challenge;
+use std::process::ExitCode;
 
-fn main(rt: HostRuntime) -> Result<(), Fault> {
+fn main(rt: HostRuntime) -> ExitCode {
+    match challenge_all(&rt) {
+        Ok(()) => ExitCode::SUCCESS,
+        Err(_) => ExitCode::FAILURE,
+    }
+}
+
+// Every number of places, with every smaller one beside it.
+fn challenge_all(rt: &HostRuntime) -> Result<(), Fault> {
     for k in 1..7 {
         for h in 1..k + 1 {
-            each(&rt, k, h)?;
+            each(rt, k, h)?;
         }
     }
     Ok(())

@@ -2,6 +2,7 @@
 #![tactic(auto)]
 
 use contest::{Fault, contest};
+use std::process::ExitCode;
 use trace::Settings;
 
 // k, h and how many rounds.
@@ -16,7 +17,15 @@ const DAYS: [(u16, u16, u16); 8] = [
     (4097, 1, 1),
 ];
 
-fn main(rt: HostRuntime) -> Result<(), Fault> {
+fn main(rt: HostRuntime) -> ExitCode {
+    match challenge_all(&rt) {
+        Ok(()) => ExitCode::SUCCESS,
+        Err(_) => ExitCode::FAILURE,
+    }
+}
+
+// Every setting, against each policy.
+fn challenge_all(rt: &HostRuntime) -> Result<(), Fault> {
     for (capacity, places, rounds) in DAYS {
         for policy in 0..3u8 {
             let settings = Settings {
@@ -25,7 +34,7 @@ fn main(rt: HostRuntime) -> Result<(), Fault> {
                 rounds,
                 policy,
             };
-            head(&rt, settings)?;
+            head(rt, settings)?;
             contest(rt.alloc(), settings, &mut rt.stdout())?;
         }
     }

@@ -17,16 +17,25 @@ use help::HELP;
 use options::{Given, Opt, Program};
 use pieces::{play_all, read_head};
 use std::io::Read;
+use std::process::ExitCode;
 use std::{fs, io};
 use texts::{pack_all, play_text};
 use unpacks::unpack_all;
 
-fn main(rt: HostRuntime) -> Result<(), Fault> {
-    match console::arguments(&rt) {
-        Ok(words) => run(&rt, words.as_slice()),
+fn main(rt: HostRuntime) -> ExitCode {
+    match play(&rt) {
+        Ok(()) => ExitCode::SUCCESS,
+        Err(_) => ExitCode::FAILURE,
+    }
+}
+
+// What ends badly was told already, so that main has only to say that it did.
+fn play(rt: &HostRuntime) -> Result<(), Fault> {
+    match console::arguments(rt) {
+        Ok(words) => run(rt, words.as_slice()),
         Err(e) => {
             let fault = Fault::Arguments(e);
-            let _ = tell(&rt, "", &String::new(rt.alloc()), fault);
+            let _ = tell(rt, "", &String::new(rt.alloc()), fault);
             Err(fault)
         }
     }

@@ -13,6 +13,7 @@ ghost use Rattle.std.specs.Prelude.{◌≤◌};
 use compares::compare;
 use generator::{Kind, fill};
 use std::io;
+use std::process::ExitCode;
 use tallies::Tally;
 
 // How many days of each kind.
@@ -29,7 +30,15 @@ impl From<io::Error> for Fault {
     }
 }
 
-fn main(rt: HostRuntime) -> Result<(), Fault> {
+fn main(rt: HostRuntime) -> ExitCode {
+    match compare_all(&rt) {
+        Ok(()) => ExitCode::SUCCESS,
+        Err(_) => ExitCode::FAILURE,
+    }
+}
+
+// Every kind of day, beside every number of places.
+fn compare_all(rt: &HostRuntime) -> Result<(), Fault> {
     let mut total = Tally::new();
     for kind in [
         Kind::AnyPage,
@@ -39,11 +48,11 @@ fn main(rt: HostRuntime) -> Result<(), Fault> {
         Kind::TwoScans,
     ] {
         for h in 1..4 {
-            let tally = days(&rt, kind, h)?;
+            let tally = days(rt, kind, h)?;
             total.add_all(tally);
         }
     }
-    end(&rt, total)
+    end(rt, total)
 }
 
 // All days of a kind beside h places.
