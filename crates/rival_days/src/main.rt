@@ -19,6 +19,7 @@ use tallies::Tally;
 // How many days of each kind.
 const DAYS: u64 = 100;
 
+#[derive(Drop)]
 enum Fault {
     Output(io::Error),
     Differs,
