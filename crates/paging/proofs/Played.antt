@@ -22,7 +22,7 @@ use Rattle.paging.specs.Stepwise.{start, plays, begins, PlaysExactly}
 use Rattle.paging.proofs.Fresh.{once_each_append}
 use Rattle.paging.proofs.Histories.{history_append}
 use Rattle.paging.proofs.Rounds.{Begun, begun_opened, begun_next, pages_many}
-use Rattle.paging.proofs.Steps.{at, over, plays_add, plays_new, plays_new_over, plays_picks}
+use Rattle.paging.proofs.Steps.{over, plays_add, plays_new, plays_new_over, plays_picks}
 
 round_over :
     (k h : ℕ) (policy : Policy) (r : Round) →

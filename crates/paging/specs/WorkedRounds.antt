@@ -1,7 +1,7 @@
 -- Two runs of the adversary counted out. Assumes nothing.
 --     WorkedRounds     nine rounds against LRU with three places beside three, and three rounds against the least requested with five
 --                       places beside two
-use Rattle.std.specs.Prelude.{◌≡◌, ℕ, true, List, [], ◌∷◌}
+use Rattle.std.specs.Prelude.{◌≡◌, true, [], ◌∷◌}
 use Rattle.paging.specs.Adversary.{opened, rounds, adversary, beside}
 use Rattle.paging.specs.Failing.{least_requested_goes}
 use Rattle.paging.specs.Policies.{history_after, policy_fetches}

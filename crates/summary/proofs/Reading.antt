@@ -9,7 +9,7 @@
 --     needed_few         .. of which there are no more than different pages
 --     never_refused      a trace that is taken for k places is taken for all
 --     allowed            a product that is kept to is a quotient that is kept to
-use Rattle.std.proofs.Common.{◌≡◌, ℕ, suc, ◌+◌, ◌-◌, ◌*◌, ◌/◌, ◌<◌, ◌≤◌, max, Bool, true, false, ltb, List, [], length, get_or, Some, None, Option, sym, refl, ◌∙◌, mul_comm, le-div_iff_mul-le, arith}
+use Rattle.std.proofs.Common.{◌≡◌, ℕ, ◌+◌, ◌-◌, ◌*◌, ◌/◌, ◌<◌, ◌≤◌, max, Bool, true, false, ltb, List, [], length, get_or, Some, None, Option, refl, mul_comm, le-div_iff_mul-le, arith}
 use Rattle.std.proofs.lemmas.Bool.Decides.{nat_tests}
 use Rattle.paging.specs.Belady.{belady_fetches, Fewest}
 use Rattle.paging.specs.Lru.{lru_fetches, lru_after}

@@ -1,5 +1,4 @@
 use Rattle.std.proofs.Common.{◌≡◌, length, drop}
-use Rattle.recency.specs.Row as recent
 use Rattle.lru_cache.specs.Rows.{cached}
 use Rattle.lru_cache.specs.Promises.{Indexed}
 use Rattle.lru_cache.proofs.rows.open.Given as goal

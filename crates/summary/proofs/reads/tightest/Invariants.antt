@@ -1,5 +1,5 @@
 -- So far the best is one of those that were seen, and the tightest of them.
-use Rattle.std.proofs.Common.{ℕ, ◌+◌, ◌-◌, ◌<◌, ◌≤◌, get_or}
+use Rattle.std.proofs.Common.{◌+◌, ◌-◌, ◌<◌, ◌≤◌, get_or}
 use Rattle.summary.proofs.Fractions.{TightOf}
 use Rattle.summary.proofs.reads.tightest.Given as goal
 
