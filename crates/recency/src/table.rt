@@ -109,6 +109,8 @@ pub(crate) fn note(row: &mut [u64], k: usize, slot: usize)
     ensures kept { Kept k row.old row.new }
     ensures sized { Sized k row.new }
     ensures table { Finds k row.new }
+    ensures spent { used row.old < 2 * k → used row.new ≡ used row.old + 1 }
+    ensures cleared { used row.old ≡ 2 * k → used row.new ≡ count row.old }
 {
     if row[1] as usize == 2 * k {
         rebuild(row, k);

@@ -17,4 +17,6 @@ returns-else-row-k c =
       kept = kept;
       sized = kept_sized _ _ _ kept c.requires.sized (omega arith);
       table = noted_last k row slot _ c.requires.sized room noted c.requires.low c.requires.high c.requires.table;
+      spent = λ _. more;
+      cleared = λ e. let z : ⊥ = omega arith in absurd z;
     }
