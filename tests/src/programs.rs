@@ -269,18 +269,18 @@ fn calls(program: &'static str, folder: &str) -> Vec<Case> {
     ]
 }
 
-/// Standard output that takes nothing: a full device, and a pipe that nobody reads, which ends a program by the signal for it (13).
+/// Standard output that takes nothing: a full device, and a pipe that nobody reads. A program tells both, since the signal for such a pipe is ignored.
 fn closed(programs: &Programs, tally: &mut Tally, program: &'static str, input: &[u8]) {
     let words = [programs.file("closed", input)];
     let case = |kind, err: String, status| Case { kind, program, words: words.to_vec(), input: vec![], out: String::new(), err, status };
     let full: File = OpenOptions::new().write(true).open("/dev/full").expect("/dev/full");
     let output = programs.command(program, &words).stdout(full).output().expect("a program that runs");
-    let err = format!("{program}: cannot write to standard output: No space left on device (os error 28)\n");
-    programs.check(tally, &case("a full device", err, 1), &output);
+    let told = |why: &str| format!("{program}: cannot write to standard output: {why}\n");
+    programs.check(tally, &case("a full device", told("No space left on device (os error 28)"), 1), &output);
     let (reader, writer) = std::io::pipe().expect("a pipe");
     drop(reader);
     let output = programs.command(program, &words).stdout(writer).output().expect("a program that runs");
-    programs.check(tally, &case("a pipe that nobody reads", String::new(), -13), &output);
+    programs.check(tally, &case("a pipe that nobody reads", told("Broken pipe (os error 32)"), 1), &output);
 }
 
 pub fn run(random: &mut Random, tally: &mut Tally, programs: &Programs) {
