@@ -1,5 +1,5 @@
 -- How long the lists of a challenge are in a row that is long enough.
-use Rattle.std.proofs.Common.{◌≡◌, ℕ, ◌+◌, ◌*◌, ◌≤◌, List, length, take, drop, arith}
+use Rattle.std.proofs.Common.{◌≡◌, ℕ, ◌+◌, ◌*◌, ◌≤◌, List, length, drop, arith}
 use Rattle.std.proofs.lemmas.List.{length-take, length-drop}
 use Rattle.adversary.specs.Places.{listed_in, picked_in, shown_in}
 use Rattle.adversary.specs.declared.challenge.Challenge.{Challenge}

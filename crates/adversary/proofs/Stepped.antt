@@ -1,11 +1,11 @@
 -- A whole step: what is aimed at, what is shown stored, the request entered.
-use Rattle.std.proofs.Common.{◌≡◌, ℕ, suc, ◌+◌, ◌*◌, ◌^◌, ◌<◌, ◌≤◌, true, cond, ltb, List, [], ◌∷◌, length, take, drop, sym, refl, ap, ◌∙◌, arith}
+use Rattle.std.proofs.Common.{◌≡◌, ℕ, ◌+◌, ◌*◌, ◌<◌, ◌≤◌, List, length, take, drop, sym, ap, ◌∙◌, arith}
 use Rattle.std.proofs.lemmas.List.{take-take, drop-take, drop-drop}
 use Rattle.std.proofs.lemmas.Bool.{lt-ltb}
-use Rattle.paging.specs.Stepwise.{Position, next_request, moved}
+use Rattle.paging.specs.Stepwise.{Position, moved}
 use Rattle.adversary.specs.declared.challenge.Challenge.{Challenge}
 use Rattle.adversary.specs.Moves.{Moved}
-use Rattle.adversary.specs.Places.{position_in, asked_in, shown_in}
+use Rattle.adversary.specs.Places.{position_in}
 use Rattle.adversary.specs.Steps.{Aimed, Stepped}
 use Rattle.adversary.proofs.Chosen.{aim_new}
 use Rattle.adversary.proofs.Lengths.{length_listed}

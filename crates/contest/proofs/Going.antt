@@ -1,6 +1,6 @@
 -- Requests made piece by piece: what was requested in the pieces so far, with the requests that are left, is what all come to.
 use Rattle.std.proofs.Common.{◌≡◌, ℕ, zero, suc, ◌+◌, ◌-◌, ◌*◌, ◌<◌, ◌≤◌, List, [], ◌∷◌, ◌++◌, sym, refl, ap, ◌∙◌, append_assoc, append-nil, arith}
-use Rattle.paging.specs.Adversary.{adversary, opened, rounds}
+use Rattle.paging.specs.Adversary.{adversary}
 use Rattle.paging.specs.Policies.{Policy, history_after}
 use Rattle.paging.specs.Stepwise.{Play, Position, start, begins, next_request, moved, step, plays}
 use Rattle.paging.proofs.Played.{plays_exactly}

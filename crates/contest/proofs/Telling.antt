@@ -1,7 +1,7 @@
 -- Requests told one after the other: what is told so far, with the lines of the requests that are left, is what all come to.
-use Rattle.std.proofs.Common.{◌≡◌, ℕ, zero, suc, ◌+◌, ◌-◌, ◌<◌, ◌≤◌, List, [], ◌∷◌, ◌++◌, Some, sym, refl, ap, ◌∙◌, append_assoc, append-nil, arith}
+use Rattle.std.proofs.Common.{◌≡◌, ℕ, suc, ◌+◌, ◌-◌, ◌<◌, ◌≤◌, List, [], ◌∷◌, ◌++◌, Some, sym, refl, ap, ◌∙◌, append_assoc, append-nil, arith}
 use Rattle.paging.specs.Policies.{Policy}
-use Rattle.paging.specs.Stepwise.{Play, Position, next_request, moved, step, plays}
+use Rattle.paging.specs.Stepwise.{Play, next_request, moved, step, plays}
 use Rattle.adversary.specs.Places.{position_in}
 use Rattle.adversary.specs.Runs.{Led}
 use Rattle.adversary.specs.Steps.{refusal_in, if_long, Stepped}

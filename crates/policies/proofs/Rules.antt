@@ -1,7 +1,7 @@
 -- A policy that goes on request by request is its rule, and so keeps a cache.
-use Rattle.std.proofs.Common.{◌≡◌, ℕ, ◌<◌, List, [], ◌∷◌, ◌++◌, sym, refl, ap, ◌∙◌}
+use Rattle.std.proofs.Common.{◌≡◌, ℕ, ◌<◌, List, [], ◌∷◌, ◌++◌, refl, ap, ◌∙◌}
 use Rattle.paging.specs.Lru.{lru}
-use Rattle.paging.specs.Policies.{Policy, Obeys}
+use Rattle.paging.specs.Policies.{Policy}
 use Rattle.paging.specs.Rules.{lru_policy, Proper}
 use Rattle.paging.proofs.Fewest.{rules_proper}
 use Rattle.policies.specs.Onward.{onward, Does}

@@ -1,18 +1,16 @@
 -- A run request by request: where it stands, and why it stops.
-use Rattle.std.proofs.Common.{◌≡◌, ℕ, suc, ◌+◌, ◌*◌, ◌<◌, ◌≤◌, Bool, true, false, cond, not, ◌&&◌, ◌||◌, leb, List, [], ◌∷◌, ◌++◌, length, drop, Some, None, Option, sym, refl, ap, ◌∙◌, append_assoc, append-nil, arith}
+use Rattle.std.proofs.Common.{◌≡◌, ℕ, ◌+◌, ◌*◌, true, leb, List, [], ◌∷◌, ◌++◌, length, drop, Some, sym, refl, ap, ◌∙◌, append_assoc, append-nil, arith}
 use Rattle.std.proofs.lemmas.Bool.{le-leb}
 use Rattle.paging.specs.Guarded.{kept}
 use Rattle.paging.specs.Policies.{Policy}
-use Rattle.paging.specs.Stepwise.{Position, Play, start, next_request, moved, step, plays}
+use Rattle.paging.specs.Stepwise.{Play, start, next_request, moved, step, plays}
 use Rattle.paging.proofs.Steps.{plays_add}
 use Rattle.lru_cache.specs.declared.refusals.Refusal.{Refusal}
 use Rattle.adversary.specs.declared.challenge.Challenge.{Challenge}
 use Rattle.adversary.specs.Begins.{Begun}
-use Rattle.adversary.specs.Places.{position_in, asked_in, shown_in}
-use Rattle.adversary.specs.Rules.{broken}
 use Rattle.adversary.specs.Runs.{Led}
-use Rattle.runs.specs.Runs.{played, asked_of, before_of, broken_after, earlier, Against, stops, Halted}
-use Rattle.adversary.specs.Steps.{exhausted, refusal, refusal_in, if_long, Stepped}
+use Rattle.runs.specs.Runs.{played, asked_of, before_of, earlier, Against, stops, Halted}
+use Rattle.adversary.specs.Steps.{refusal_in, if_long, Stepped}
 use Rattle.runs.proofs.Keeping.{kept_now, refusal_none}
 
 -- before the first request

@@ -1,5 +1,5 @@
 -- A run from where the challenge begins.
-use Rattle.std.proofs.Common.{◌≡◌, ℕ, suc, ◌+◌, ◌-◌, ◌*◌, ◌^◌, ◌<◌, ◌≤◌, true, List, length, drop, is_ok, IfOk, IfErr, None, Ok, Err, Result, sym, refl, ap, ◌∙◌, subst, arith, MatchOption}
+use Rattle.std.proofs.Common.{◌≡◌, ℕ, suc, ◌+◌, ◌-◌, ◌*◌, ◌^◌, ◌<◌, true, List, length, drop, is_ok, IfOk, IfErr, Ok, Err, Result, sym, refl, subst, arith, MatchOption}
 use Rattle.paging.specs.Policies.{Policy}
 use Rattle.paging.specs.Rules.{Proper}
 use Rattle.lru_cache.specs.declared.refusals.Refusal.{Refusal}

@@ -1,7 +1,7 @@
 -- The schedule's caches are what is read at the ends of rounds.
-use Rattle.std.proofs.Common.{◌≡◌, ℕ, zero, suc, ◌+◌, ◌-◌, ◌*◌, ◌<◌, ◌≤◌, Bool, true, false, cond, eqb, ltb, List, [], ◌∷◌, ◌++◌, length, get_or, take, replicate, sym, refl, ap, ◌∙◌, ⊎_elim, append_assoc, append-nil, arith}
+use Rattle.std.proofs.Common.{◌≡◌, ℕ, zero, suc, ◌+◌, ◌-◌, ◌*◌, ◌<◌, ◌≤◌, cond, ltb, List, [], ◌∷◌, ◌++◌, length, get_or, replicate, sym, refl, ap, ◌∙◌, ⊎_elim, append_assoc, append-nil, arith}
 use Rattle.std.proofs.lemmas.List.{get_or_append_left, get_or-append_right, get_or-replicate, length-append, length-replicate}
-use Rattle.std.proofs.lemmas.Bool.{cases_lt, eq-eqb, ne_eqb, lt-ltb, le-ltb}
+use Rattle.std.proofs.lemmas.Bool.{cases_lt, lt-ltb, le-ltb}
 use Rattle.std.proofs.lemmas.Bool.Decides.{nat_tests}
 use Rattle.paging.specs.Adversary.{fresh, Round, opened, new_pages, last_new, next_list, next_round, rounds, held, served, schedule_from, beside}
 use Rattle.paging.specs.Policies.{Policy}
@@ -9,10 +9,10 @@ use Rattle.paging.specs.Stepwise.{Play, Position, begins}
 use Rattle.paging.proofs.Fresh.{length_fresh}
 use Rattle.paging.proofs.Played.{plays_exactly}
 use Rattle.adversary.specs.declared.challenge.Challenge.{Challenge}
-use Rattle.adversary.specs.Beside.{news_of, new_at, cache_in}
+use Rattle.adversary.specs.Beside.{new_at, cache_in}
 use Rattle.runs.specs.Schedule.{ReadsSchedule}
 use Rattle.adversary.specs.Places.{listed_in}
-use Rattle.runs.specs.Runs.{played, Against}
+use Rattle.runs.specs.Runs.{Against}
 
 -- the caches after the new pages, by place
 length_served : (pages news : List ℕ) → length (served pages news) ≡ length news

@@ -1,15 +1,14 @@
 -- The rules of a cache and the place where they are broken first, against each other.
-use Rattle.std.proofs.Common.{◌≡◌, ℕ, suc, ◌+◌, ◌≤◌, Bool, true, false, cond, not, ◌&&◌, ◌||◌, eqb, leb, List, [], ◌∷◌, ◌++◌, length, Some, None, Option, sym, refl, ap, ◌∙◌, arith}
+use Rattle.std.proofs.Common.{◌≡◌, ℕ, suc, Bool, true, false, cond, not, ◌||◌, leb, List, [], ◌∷◌, length, Some, None, Option, refl, arith}
 use Rattle.std.proofs.lemmas.Bool.Decides.{nat_tests}
 use Rattle.paging.specs.Guarded.{kept}
-use Rattle.paging.specs.Lists.{has, distinct}
-use Rattle.paging.specs.Policies.{Policy, keeps, Obeys}
+use Rattle.paging.specs.Lists.{has}
+use Rattle.paging.specs.Policies.{Policy, keeps}
 use Rattle.paging.specs.Schedules.{only_adds}
 use Rattle.paging.specs.Stepwise.{Position}
 use Rattle.lru_cache.specs.declared.refusals.Refusal.{Refusal}
-use Rattle.lru_cache.specs.declared.refusals.Refusal.TheVariants.{BrokenRule}
 use Rattle.adversary.specs.Rules.{first_odd, lacking, or_else, broken}
-use Rattle.runs.specs.Runs.{asked_of, before_of, broken_after, earlier}
+use Rattle.runs.specs.Runs.{broken_after, earlier}
 use Rattle.adversary.specs.Steps.{exhausted, refusal, told}
 
 -- what none tells of the tests before it

@@ -1,8 +1,8 @@
 -- A policy that keeps the rules is never refused for a broken one, nor at all as long as there are pages left.
-use Rattle.std.proofs.Common.{◌≡◌, ℕ, zero, suc, ◌+◌, ◌-◌, ◌*◌, ◌^◌, ◌<◌, ◌≤◌, Bool, true, false, cond, not, ◌&&◌, ◌||◌, eqb, ltb, leb, List, [], ◌∷◌, ◌++◌, length, take, Some, None, Option, sym, refl, ap, ◌∙◌, ⊎_elim, arith}
+use Rattle.std.proofs.Common.{◌≡◌, ℕ, zero, suc, ◌+◌, ◌-◌, ◌*◌, ◌^◌, ◌<◌, ◌≤◌, Bool, true, false, cond, ◌&&◌, ltb, leb, List, [], ◌∷◌, ◌++◌, take, Some, None, Option, sym, refl, ap, ◌∙◌, ⊎_elim, arith}
 use Rattle.std.proofs.lemmas.Bool.{cases_lt, lt-ltb, le-ltb}
 use Rattle.std.proofs.lemmas.Bool.Decides.{nat_tests}
-use Rattle.paging.specs.Adversary.{opened, rounds, once_each}
+use Rattle.paging.specs.Adversary.{once_each}
 use Rattle.paging.specs.Lists.{has, distinct}
 use Rattle.paging.specs.Policies.{Policy, keeps}
 use Rattle.paging.specs.Rules.{Proper}
@@ -15,7 +15,7 @@ use Rattle.lru_cache.specs.declared.refusals.Refusal.TheVariants.{NoPageLeft}
 use Rattle.runs.specs.declared.counts.Stopped.{Stopped}
 use Rattle.adversary.specs.Rules.{first_odd, broken}
 use Rattle.runs.specs.Runs.{played, asked_of, before_of, broken_after, stops}
-use Rattle.adversary.specs.Steps.{told, exhausted, refusal}
+use Rattle.adversary.specs.Steps.{told, exhausted}
 use Rattle.runs.specs.Whole.{halts, Broke}
 use Rattle.adversary.proofs.Broken.{broken_nothing, broken_none}
 use Rattle.adversary.proofs.Chosen.{refusal_kept}

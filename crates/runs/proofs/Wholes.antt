@@ -1,23 +1,20 @@
 -- A whole run: from the rules kept along it to its counts, and why it stops.
-use Rattle.std.proofs.Common.{◌≡◌, ℕ, suc, ◌+◌, ◌-◌, ◌*◌, ◌<◌, ◌≤◌, Bool, true, false, cond, ltb, leb, List, [], ◌∷◌, ◌++◌, length, Some, None, Option, sym, refl, ap, ◌∙◌, arith}
+use Rattle.std.proofs.Common.{◌≡◌, ℕ, suc, ◌+◌, ◌-◌, ◌*◌, ◌<◌, ◌≤◌, true, false, ltb, leb, List, [], length, Some, None, Option, sym, ap, ◌∙◌, arith}
 use Rattle.std.proofs.lemmas.Bool.{le-leb, lt-ltb, le-ltb}
-use Rattle.paging.specs.Adversary.{adversary, rounds, opened}
-use Rattle.paging.specs.Guarded.{kept}
-use Rattle.paging.specs.LowerBound.{Counted}
+use Rattle.paging.specs.Adversary.{adversary}
 use Rattle.paging.specs.Policies.{Policy, history_after}
 use Rattle.paging.specs.Stepwise.{Play, begins}
 use Rattle.paging.proofs.Guards.{kept_counts}
 use Rattle.paging.proofs.Played.{plays_exactly}
-use Rattle.lru_cache.specs.declared.refusals.Refusal.{Refusal}
 use Rattle.adversary.specs.declared.challenge.Challenge.{Challenge}
 use Rattle.runs.specs.declared.counts.Counts.{Counts}
 use Rattle.runs.specs.declared.counts.Stopped.{Stopped}
 use Rattle.adversary.specs.Places.{asked_in, shown_in}
 use Rattle.adversary.specs.Rules.{broken}
 use Rattle.adversary.specs.Runs.{Led}
-use Rattle.runs.specs.Runs.{played, asked_of, before_of, broken_after, Against, Halted}
+use Rattle.runs.specs.Runs.{played, broken_after, Against, Halted}
 use Rattle.adversary.specs.Steps.{told, fault_in, if_long}
-use Rattle.runs.specs.Whole.{halts, Ran, Broke}
+use Rattle.runs.specs.Whole.{Ran, Broke}
 use Rattle.runs.proofs.Keeping.{kept_now}
 
 module _ (k h m : ℕ) (policy : Policy) (low : 0 < h) (le : h ≤ k) where

@@ -1,4 +1,4 @@
-use Rattle.std.proofs.Common.{◌≡◌, ◌+◌, ◌-◌, true, List, take, drop, sym, refl, ap, ◌∙◌, arith}
+use Rattle.std.proofs.Common.{◌≡◌, ◌+◌, ◌-◌, take, drop, sym, refl, ◌∙◌, arith}
 use Rattle.paging.specs.Lists.{has}
 use Rattle.adversary.proofs.Edited.{once_there, once_new, note_after, note_front, note_rest}
 use Rattle.adversary.proofs.rows.note.Goals as goal

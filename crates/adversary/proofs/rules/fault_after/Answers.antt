@@ -1,10 +1,8 @@
-use Rattle.std.proofs.Common.{◌≡◌, ℕ, List, [], ◌∷◌, length, sym, refl, ◌∙◌, arith}
+use Rattle.std.proofs.Common.{[], ◌∷◌, length, sym, refl, ◌∙◌, arith}
 use Rattle.lru_cache.proofs.Cleared.{cleared}
-use Rattle.recency.specs.Row as recent
-use Rattle.adversary.specs.Rules.{first_odd}
 use Rattle.adversary.proofs.Broken.{broken_over, broken_odd, broken_lacking, broken_none}
 use Rattle.adversary.proofs.Marked.{marks_none}
-use Rattle.adversary.proofs.Odd.{odd_same, odd_marked, never_none}
+use Rattle.adversary.proofs.Odd.{odd_marked, never_none}
 use Rattle.adversary.proofs.rules.fault_after.Goals as goal
 
 pub first_odd-requires : goal.first_odd-requires

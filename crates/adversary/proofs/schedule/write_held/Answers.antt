@@ -1,4 +1,4 @@
-use Rattle.std.proofs.Common.{◌≡◌, ℕ, ◌+◌, get_or, sym, refl, ap, ◌∙◌, arith}
+use Rattle.std.proofs.Common.{refl, ◌∙◌, arith}
 use Rattle.adversary.proofs.Written.{writing_none, writing_past, writing_more, writing_all}
 use Rattle.adversary.proofs.schedule.write_held.Goals as goal
 

@@ -1,4 +1,4 @@
-use Rattle.std.proofs.Common.{◌≡◌, ◌≤◌, refl, ◌∙◌, arith}
+use Rattle.std.proofs.Common.{◌≤◌, refl, ◌∙◌, arith}
 use Rattle.contest.proofs.Going.{going_none, going_more, going_all, turned_of}
 use Rattle.contest.proofs.contests.play_out.Goals as goal
 

@@ -1,4 +1,4 @@
-use Rattle.std.proofs.Common.{◌≡◌, string_bytes, refl, ◌∙◌, arith}
+use Rattle.std.proofs.Common.{string_bytes, refl, ◌∙◌, arith}
 use Rattle.std.proofs.lemmas.Result.{err_from_is_err_and}
 use Rattle.contest.proofs.Telling.{telling_none, telling_more, telling_stops, telling_all}
 use Rattle.contest.proofs.turns.play.Goals as goal

@@ -1,4 +1,4 @@
-use Rattle.std.proofs.Common.{◌≡◌, List, length, string_bytes}
+use Rattle.std.proofs.Common.{◌≡◌, length, string_bytes}
 use Rattle.contest.proofs.Telling.{Telling}
 use Rattle.contest.proofs.turns.play.Given as goal
 

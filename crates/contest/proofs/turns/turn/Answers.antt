@@ -1,4 +1,4 @@
-use Rattle.std.proofs.Common.{◌≡◌, ℕ, List, [], ◌∷◌, ◌++◌, string_bytes, sym, ap, ◌∙◌}
+use Rattle.std.proofs.Common.{ℕ, List, [], ◌∷◌, ◌++◌, string_bytes, ap, ◌∙◌}
 use Rattle.trace.specs.Lines.{line_bytes}
 use Rattle.trace.specs.declared.lines.Line.{Line}
 use Rattle.telling.specs.Told.{said}

@@ -1,4 +1,4 @@
-use Rattle.std.proofs.Common.{◌≡◌, ◌∙◌, arith}
+use Rattle.std.proofs.Common.{◌∙◌, arith}
 use Rattle.paging.proofs.Places.{place_found, place_more, place_all}
 use Rattle.policies.proofs.rows.find.Goals as goal
 

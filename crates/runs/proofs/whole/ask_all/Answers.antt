@@ -1,5 +1,5 @@
-use Rattle.std.proofs.Common.{◌≡◌, ℕ, ◌+◌, ◌*◌, List, [], drop, sym, refl, ap, ◌∙◌, arith}
-use Rattle.runs.proofs.Against.{against_more, history_more, led_none, led_more, led_at, halted, beyond_more}
+use Rattle.std.proofs.Common.{◌≡◌, ◌+◌, ◌*◌, [], drop, refl, ap, ◌∙◌, arith}
+use Rattle.runs.proofs.Against.{against_more, led_none, led_at, halted, beyond_more}
 use Rattle.runs.proofs.whole.ask_all.Goals as goal
 
 pub loop-n-init : goal.loop-n-init

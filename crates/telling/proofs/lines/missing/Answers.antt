@@ -1,4 +1,4 @@
-use Rattle.std.proofs.Common.{◌≡◌, sym, ◌∙◌, arith}
+use Rattle.std.proofs.Common.{sym, ◌∙◌, arith}
 use Rattle.telling.proofs.Gone.{gone_later, gone_here, gone_none}
 use Rattle.telling.proofs.lines.missing.Goals as goal
 

@@ -1,4 +1,4 @@
-use Rattle.std.proofs.Common.{◌≡◌, ℕ, ◌+◌, sym, ap, ◌∙◌, arith}
+use Rattle.std.proofs.Common.{◌+◌, sym, ap, ◌∙◌, arith}
 use Rattle.paging.specs.Lists.{has}
 use Rattle.paging.proofs.Appends.{has_at}
 use Rattle.telling.proofs.lines.stays.Goals as goal

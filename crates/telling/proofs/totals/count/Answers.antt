@@ -1,7 +1,5 @@
 use Rattle.std.proofs.Common.{◌≡◌, ℕ, suc, ◌+◌, ◌-◌, ◌*◌, sym, ap, ◌∙◌, arith}
 use Rattle.paging.proofs.Counts.{exact_counts}
-use Rattle.trace.specs.declared.totals.Totals.{Totals}
-use Rattle.telling.specs.Told.{totals_of}
 use Rattle.telling.proofs.totals.count.Goals as goal
 
 pub returns : goal.returns

@@ -1,7 +1,7 @@
-use Rattle.std.proofs.Common.{◌≡◌, ℕ, List, sym, refl, ◌∙◌, arith}
+use Rattle.std.proofs.Common.{sym, refl}
 use Rattle.recency.specs.Row as recent
 use Rattle.adversary.specs.Places.{asked_in, shown_in, position_in}
-use Rattle.adversary.proofs.Chosen.{refusal_broken, refusal_kept, aimed}
+use Rattle.adversary.proofs.Chosen.{refusal_broken, aimed}
 use Rattle.adversary.proofs.challenge.Challenge.aim.Goals as goal
 
 pub returns-in-Some : goal.returns-in-Some

@@ -1,4 +1,4 @@
-use Rattle.std.proofs.Common.{◌≡◌, ◌-◌, take, sym, ◌∙◌, arith}
+use Rattle.std.proofs.Common.{◌≡◌, ◌-◌, take, ◌∙◌, arith}
 use Rattle.paging.specs.Adversary.{first_missing}
 use Rattle.recency.specs.Row as recent
 use Rattle.adversary.specs.Places.{position_in}

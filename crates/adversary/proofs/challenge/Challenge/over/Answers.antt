@@ -1,5 +1,4 @@
-use Rattle.std.proofs.Common.{◌≡◌, ℕ, List, [], refl, ap, ◌∙◌}
-use Rattle.paging.specs.Stepwise.{Position}
+use Rattle.std.proofs.Common.{refl, ◌∙◌}
 use Rattle.adversary.proofs.Entered.{rest_further, begun_list}
 use Rattle.adversary.proofs.challenge.Challenge.over.Goals as goal
 

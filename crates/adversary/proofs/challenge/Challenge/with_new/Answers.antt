@@ -1,4 +1,4 @@
-use Rattle.std.proofs.Common.{◌≡◌, ℕ, suc, ◌+◌, ◌<◌, List, set, refl, ap, ◌∙◌, arith}
+use Rattle.std.proofs.Common.{◌≡◌, suc, ◌<◌, set, refl, ◌∙◌, arith}
 use Rattle.adversary.specs.Places.{position_in}
 use Rattle.adversary.proofs.Entered.{rest_further, new_back, entered_new, entered_new_over}
 use Rattle.adversary.proofs.challenge.Challenge.with_new.Goals as goal

@@ -1,4 +1,4 @@
-use Rattle.std.proofs.Common.{◌≡◌, ℕ, suc, ◌+◌, ◌<◌, List, refl, ap, ◌∙◌, arith}
+use Rattle.std.proofs.Common.{refl, ◌∙◌, arith}
 use Rattle.adversary.specs.Places.{position_in}
 use Rattle.adversary.proofs.Entered.{entered_pick, entered_pick_over}
 use Rattle.adversary.proofs.challenge.Challenge.with_pick.Goals as goal

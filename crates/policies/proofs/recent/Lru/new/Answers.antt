@@ -1,6 +1,5 @@
-use Rattle.std.proofs.Common.{◌≡◌, ℕ, ◌+◌, List, [], length, sym, ap, ◌∙◌, arith}
+use Rattle.std.proofs.Common.{◌≡◌, [], ap, ◌∙◌, arith}
 use Rattle.std.proofs.lemmas.List.{with_items_is}
-use Rattle.paging.specs.Lru.{lru}
 use Rattle.recency.specs.Row as index
 use Rattle.policies.proofs.Opened.{again}
 use Rattle.policies.proofs.Rules.{lru_does}

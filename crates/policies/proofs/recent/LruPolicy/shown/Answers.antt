@@ -1,4 +1,4 @@
-use Rattle.std.proofs.Common.{◌≡◌, ℕ, ◌+◌, ◌≤◌, List, length, get_or, sym, ap, ◌∙◌, arith}
+use Rattle.std.proofs.Common.{ap, ◌∙◌, arith}
 use Rattle.lru_cache.specs.Rows.{cached}
 use Rattle.policies.specs.Onward.{onward}
 use Rattle.policies.proofs.Opened.{opened}
