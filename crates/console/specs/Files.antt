@@ -1,7 +1,7 @@
 -- Which file the arguments name. Assumes nothing: these are definitions.
 --     word_at words i          argument i, from 1, where there is one
 --     file_named given words   the file that is named; none where standard input is meant, which `-` is too
-use Rattle.std.specs.Prelude.{ℕ, ◌-◌, cond, ◌||◌, List, [], ◌∷◌, length, Some, None, codes, Option, ◌==◌, nat_lt, slice_index_or}
+use Rattle.std.specs.Prelude.{ℕ, ◌-◌, cond, ◌||◌, List, [], length, Some, None, codes, Option, ◌==◌, nat_lt, slice_index_or}
 use Rattle.std.specs.Str.{bytes_eq}
 use Rattle.options.specs.Arguments.{get}
 use Rattle.options.specs.declared.given.Given.{Given}

@@ -3,7 +3,7 @@
 --     text_back          the lines of pages name them, also behind a header's line
 --     there_and_back     whole requests in bytes, as text and in bytes again
 --     text_there         what a text names, in bytes
-use Rattle.std.proofs.Common.{◌≡◌, ap, ◌∙◌}
+use Rattle.std.proofs.Common.{ap, ◌∙◌}
 use Rattle.trace.specs.Requests.{requests_in}
 use Rattle.text.specs.Texts.{begin}
 use Rattle.text.proofs.Pieces.{pages_append, after_append}

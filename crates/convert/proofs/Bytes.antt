@@ -3,11 +3,11 @@
 --     bytes_back       bytes that are whole requests are the bytes of these
 --     small_requests   what bytes request are pages
 --     header_back      the bytes of a header are that header
-use Rattle.std.proofs.Common.{◌≡◌, ℕ, ◌+◌, ◌*◌, ◌/◌, ◌%◌, ◌^◌, ◌<◌, ◌≤◌, List, [], ◌∷◌, ◌++◌, Some, sym, refl, ap, ◌∙◌, arith}
+use Rattle.std.proofs.Common.{◌≡◌, ℕ, ◌+◌, ◌*◌, ◌/◌, ◌%◌, ◌<◌, List, [], ◌∷◌, ◌++◌, Some, refl, ap, arith}
 use Rattle.trace.specs.Headers.{header_of}
 use Rattle.trace.specs.Requests.{page_of, requests_in, left_over}
 use Rattle.trace.specs.declared.headers.Header.{Header}
-use Rattle.convert.specs.Days.{page_bytes, bytes_of, header_bytes}
+use Rattle.convert.specs.Days.{bytes_of, header_bytes}
 use Rattle.convert.specs.Claims.{Below}
 
 pub pages_back : (pages : List ℕ) → Below 4294967296 pages → requests_in (bytes_of pages) ≡ pages

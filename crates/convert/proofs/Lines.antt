@@ -2,7 +2,7 @@
 --     small_pages     what a text names are pages
 --     lines_back      the lines of pages name them
 --     noted_back      also behind a header's line
-use Rattle.std.proofs.Common.{◌≡◌, ℕ, ◌+◌, ◌-◌, ◌*◌, ◌/◌, ◌%◌, ◌^◌, ◌<◌, ◌≤◌, min, Bool, true, false, eqb, ltb, leb, List, [], ◌∷◌, ◌++◌, length, take, Some, None, codes, decimal, Option, refl, ap, ◌∙◌, subst, append_assoc, arith}
+use Rattle.std.proofs.Common.{◌≡◌, ℕ, ◌+◌, ◌-◌, ◌*◌, ◌/◌, ◌%◌, ◌^◌, ◌<◌, ◌≤◌, min, true, false, eqb, ltb, leb, List, [], ◌∷◌, ◌++◌, length, take, Some, None, codes, decimal, Option, refl, ap, ◌∙◌, subst, append_assoc, arith}
 use Rattle.std.proofs.lemmas.Fmt.{decimal_by_steps}
 use Rattle.std.proofs.lemmas.List.{length-take, length_push}
 use Rattle.std.proofs.lemmas.Bool.{cond_both, ltb-true, ne_eqb, lt-ltb, le-leb, lt-leb}

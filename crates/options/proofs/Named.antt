@@ -1,6 +1,6 @@
 -- A word that is not a name. Assumes nothing.
 --     not_named     the test says so
-use Rattle.std.proofs.Common.{◌≡◌, ℕ, Bool, true, false, List, sym, ⊎_elim}
+use Rattle.std.proofs.Common.{◌≡◌, ℕ, true, false, List, sym, ⊎_elim}
 use Rattle.std.proofs.lemmas.Slice.Eq.{bytes_eq-Decides}
 use Rattle.std.proofs.lemmas.Bool.{cases_Bool}
 use Rattle.std.specs.Str.{bytes_eq}

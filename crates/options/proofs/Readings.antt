@@ -2,7 +2,7 @@
 --     read_more      one argument more is taken
 --     read_wrong     one is wrong
 --     read_done      none is left
-use Rattle.std.proofs.Common.{◌≡◌, ℕ, ◌+◌, ◌<◌, ◌≤◌, List, [], ◌∷◌, length, get_or, drop, Ok, Err, Result, sym, refl, ap, ◌∙◌}
+use Rattle.std.proofs.Common.{◌≡◌, ℕ, ◌+◌, ◌<◌, ◌≤◌, List, [], length, get_or, drop, Ok, Err, Result, sym, ap, ◌∙◌}
 use Rattle.std.proofs.lemmas.List.{at_drop_more, at_drop_all}
 use Rattle.options.specs.Arguments.{step, ended_at, read_from}
 use Rattle.options.specs.declared.given.Given.{Given}

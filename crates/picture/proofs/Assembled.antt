@@ -4,7 +4,7 @@
 --     mark_told, mark_none        the mark, and where there is none
 --     frame_told                  the axes
 --     picture_told                the whole
-use Rattle.std.proofs.Common.{◌≡◌, ℕ, ◌+◌, ◌-◌, ◌/◌, ◌<◌, ◌≤◌, min, true, false, cond, ◌||◌, eqb, ltb, List, [], ◌++◌, get_or, sym, refl, ap, ◌∙◌, append_assoc, append-nil, arith}
+use Rattle.std.proofs.Common.{◌≡◌, ℕ, ◌+◌, ◌-◌, ◌/◌, ◌≤◌, min, true, false, ◌||◌, eqb, ltb, List, ◌++◌, get_or, sym, ap, ◌∙◌, append_assoc, append-nil, arith}
 use Rattle.std.proofs.lemmas.Bool.Decides.{nat_tests}
 use Rattle.picture.specs.Drawn.{shape_bytes}
 use Rattle.picture.specs.Pictured.{told, fetches_piece, places_piece, steps_piece, frame, line, lines, label, mark, picture}

@@ -2,7 +2,7 @@
 --     told_more, told_done                n pieces, of which those before the i-th are in the text: one more, and all
 --     fetches_told, places_told           a piece of an axis, as it is written
 --     step_told, step_none                a step of a line
-use Rattle.std.proofs.Common.{◌≡◌, ℕ, zero, suc, ◌+◌, ◌-◌, ◌*◌, ◌<◌, ◌≤◌, Bool, true, false, cond, eqb, List, [], ◌∷◌, ◌++◌, get_or, sym, refl, ap, ◌∙◌, append_assoc, append-nil, arith}
+use Rattle.std.proofs.Common.{◌≡◌, ℕ, suc, ◌+◌, ◌-◌, ◌*◌, ◌<◌, ◌≤◌, true, false, eqb, List, ◌++◌, get_or, sym, ap, ◌∙◌, append_assoc, append-nil, arith}
 use Rattle.std.proofs.lemmas.Bool.Decides.{nat_tests}
 use Rattle.picture.specs.Drawn.{shape_bytes}
 use Rattle.picture.specs.Pictured.{told, fetches_piece, places_piece, steps_piece}

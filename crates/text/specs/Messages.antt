@@ -3,7 +3,7 @@
 --     dots n          `...` where n bytes are more than are told
 --     told_word s     the word: its first 40 bytes, and `...` where it has more
 --     bad_line s      `7: 'abc' is not a page number (0 to 4294967295)`
-use Rattle.std.specs.Prelude.{ℕ, cond, ◌&&◌, List, [], ◌∷◌, ◌++◌, map, length, take, codes, decimal, nat_le, nat_lt}
+use Rattle.std.specs.Prelude.{ℕ, cond, ◌&&◌, List, ◌++◌, map, length, take, codes, decimal, nat_le, nat_lt}
 use Rattle.text.specs.Texts.{State}
 
 abbrev pub shown : ℕ → ℕ

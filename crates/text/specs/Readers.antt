@@ -1,6 +1,6 @@
 -- What a reader holds. Assumes nothing: these are definitions.
 --     state_of reader     what it knows of the text so far
-use Rattle.std.specs.Prelude.{ℕ, take}
+use Rattle.std.specs.Prelude.{take}
 use Rattle.text.specs.Texts.{State}
 use Rattle.text.specs.declared.readers.Reader.{Reader}
 

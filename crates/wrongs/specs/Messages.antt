@@ -3,7 +3,7 @@
 --     wants option             what it takes for a value
 --     place_at wrong           which argument is at fault, 0 where none is
 --     wrong_line p wrong word  what is said, without the line break; word is the argument at fault
-use Rattle.std.specs.Prelude.{ℕ, cond, List, [], ◌∷◌, ◌++◌, codes, decimal, ◌==◌}
+use Rattle.std.specs.Prelude.{ℕ, cond, List, ◌++◌, codes, decimal, ◌==◌}
 use Rattle.options.specs.Names.{name_of}
 use Rattle.options.specs.declared.names.Program.{Program}
 use Rattle.options.specs.declared.names.Program.TheVariants.{Play, Challenge}

@@ -1,5 +1,5 @@
 -- What the piece names is packed whole.
-use Rattle.std.proofs.Common.{◌≡◌, ℕ, replicate, arith}
+use Rattle.std.proofs.Common.{ℕ, replicate, arith}
 use Rattle.std.proofs.lemmas.List.{length-replicate}
 use Rattle.text.specs.Readers.{state_of}
 use Rattle.convert.proofs.Parts.{text_packed}

@@ -1,5 +1,5 @@
 -- The part of the array that is told is what the bytes request.
-use Rattle.std.proofs.Common.{◌≡◌, ℕ, List, ◌++◌, string_bytes, ap, ◌∙◌, arith}
+use Rattle.std.proofs.Common.{ℕ, List, ◌++◌, string_bytes, ap, ◌∙◌, arith}
 use Rattle.convert.specs.Days.{text_of}
 use Rattle.convert.proofs.Parts.{piece_decoded}
 use Rattle.convert.proofs.pieces.unpack_bytes.Goals as goal

@@ -1,5 +1,5 @@
 -- Each turn tells one byte more.
-use Rattle.std.proofs.Common.{◌≡◌, ◌<◌, true, is_ok, arith, rules}
+use Rattle.std.proofs.Common.{◌≡◌, ◌<◌, true, is_ok, rules}
 use Rattle.text.proofs.Telling.{bytes_more, bytes_all}
 use Rattle.text.proofs.messages.tell_bytes.Goals as goal
 

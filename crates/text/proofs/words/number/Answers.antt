@@ -1,5 +1,5 @@
 -- Each turn takes one byte more.
-use Rattle.std.proofs.Common.{◌≡◌, sym, ◌∙◌}
+use Rattle.std.proofs.Common.{sym, ◌∙◌}
 use Rattle.std.proofs.lemmas.List.{at_drop_more, at_drop_all}
 use Rattle.text.specs.Texts.{number_from}
 use Rattle.text.proofs.words.number.Goals as goal

@@ -1,5 +1,5 @@
 -- Each as it is defined.
-use Rattle.std.proofs.Common.{◌≡◌, sym, ap}
+use Rattle.std.proofs.Common.{sym, ap}
 use Rattle.wrongs.specs.Messages.{wants}
 use Rattle.wrongs.proofs.messages.wants.Goals as goal
 

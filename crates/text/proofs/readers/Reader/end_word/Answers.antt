@@ -1,5 +1,5 @@
 -- A word that is kept is told, so it ends as a word does.
-use Rattle.std.proofs.Common.{◌≡◌, ◌<◌, length, take, arith}
+use Rattle.std.proofs.Common.{◌<◌, arith}
 use Rattle.text.specs.Readers.{state_of}
 use Rattle.text.proofs.Told.{told_some, ends_bad, ends_page}
 use Rattle.text.proofs.readers.Reader.end_word.Goals as goal

@@ -1,5 +1,5 @@
 -- Each turn reads one byte more of the piece.
-use Rattle.std.proofs.Common.{◌≡◌, ◌+◌, ◌<◌, ◌≤◌, ◌++◌, length, take, drop, sym, ◌∙◌, arith}
+use Rattle.std.proofs.Common.{◌+◌, ◌<◌, ◌≤◌, length, take, sym, ◌∙◌, arith}
 use Rattle.std.proofs.lemmas.List.{length-take, length-take-le, get_or-take, length-set, take-append-drop}
 use Rattle.text.proofs.Pieces.{left_none, left_page, left_known, behind, read_pages, read_known}
 use Rattle.text.proofs.readers.Reader.read.Goals as goal
