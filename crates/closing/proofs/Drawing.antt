@@ -1,13 +1,13 @@
 -- The picture of a report that was made. Assumes nothing.
 --     whole         nothing stands in the way of a picture
 --     pictured      the picture is that of the report
-use Rattle.std.proofs.Common.{◌≡◌, ℕ, ◌*◌, ◌≤◌, Bool, true, false, cond, List, [], ◌++◌, length, is_ok, IfOk, Some, None, Ok, Err, Result, sym, refl, ◌∙◌, arith}
+use Rattle.std.proofs.Common.{◌≡◌, ℕ, ◌≤◌, Bool, true, cond, List, [], ◌++◌, length, is_ok, IfOk, None, Ok, Err, Result, refl, ◌∙◌, arith}
 use Rattle.std.proofs.lemmas.Bool.{le-ltb}
 use Rattle.std.proofs.lemmas.Bool.Decides.{nat_tests}
 use Rattle.belady.specs.Reported.{Reported}
-use Rattle.curve.specs.Refused.{refusal, Checked}
+use Rattle.curve.specs.Refused.{Checked}
 use Rattle.picture.specs.Pictured.{picture, drawable}
-use Rattle.closing.specs.Drawn.{no_picture, Drawn, Pictured}
+use Rattle.closing.specs.Drawn.{no_picture, Drawn}
 
 module _ (requests : List ℕ) (total m k : ℕ) (checked : Checked requests m 8192) (kept : total ≤ length requests) where
   whole : no_picture requests total m ≡ None
