@@ -1,5 +1,5 @@
 -- Why a challenge does not begin or goes no further, where its rows are long enough.
-use Rattle.std.proofs.Common.{◌≡◌, ℕ, ◌+◌, ◌*◌, ◌≤◌, List, length, None, Option, sym, refl, ap, ◌∙◌, arith}
+use Rattle.std.proofs.Common.{◌≡◌, ℕ, ◌+◌, ◌*◌, ◌≤◌, List, length, None, Option, arith}
 use Rattle.std.proofs.lemmas.Bool.Decides.{nat_tests}
 use Rattle.lru_cache.specs.declared.refusals.Refusal.{Refusal}
 use Rattle.adversary.specs.declared.challenge.Challenge.{Challenge}

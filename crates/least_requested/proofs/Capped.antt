@@ -1,9 +1,8 @@
 -- Counts that stay at the largest number are those of the rule, for as long as no history is that long; and the cache is one in any case.
-use Rattle.std.proofs.Common.{◌≡◌, ℕ, suc, ◌^◌, ◌<◌, ◌≤◌, min, Bool, true, false, cond, ◌&&◌, ◌||◌, ltb, leb, List, [], ◌∷◌, length, sym, refl, ap, ◌∙◌, arith}
+use Rattle.std.proofs.Common.{◌≡◌, ℕ, suc, ◌^◌, ◌<◌, ◌≤◌, min, Bool, true, false, cond, ◌&&◌, ◌||◌, ltb, leb, List, [], ◌∷◌, length, refl, ap, ◌∙◌, arith}
 use Rattle.std.proofs.lemmas.Bool.Decides.{nat_tests}
-use Rattle.paging.specs.Failing.{Entry, pages_in, count_of, others, fewest, counted, spared, entries, least_requested_goes}
+use Rattle.paging.specs.Failing.{Entry, pages_in, count_of, others, fewest, spared, entries, least_requested_goes}
 use Rattle.paging.specs.Lists.{has}
-use Rattle.paging.specs.Rules.{Proper}
 use Rattle.paging.proofs.Caches.{proper}
 use Rattle.paging.proofs.Fewest.{least_goes}
 use Rattle.least_requested.specs.Counting.{served, most, DoesFor}

@@ -1,11 +1,11 @@
 -- Two rows side by side as entries: what stands at a place, the entry of a page taken out, and the least requested taken out.
-use Rattle.std.proofs.Common.{◌≡◌, ℕ, zero, suc, ◌+◌, ◌<◌, ◌≤◌, min, Bool, true, false, cond, eqb, ltb, List, [], ◌∷◌, ◌++◌, length, get_or, take, drop, sym, refl, ap, ◌∙◌, arith}
+use Rattle.std.proofs.Common.{◌≡◌, ℕ, zero, suc, ◌<◌, ◌≤◌, min, Bool, true, false, cond, eqb, ltb, List, [], ◌∷◌, length, get_or, take, refl, ap, ◌∙◌, arith}
 use Rattle.std.specs.List.{remove}
 use Rattle.std.proofs.lemmas.List.{length-take}
 use Rattle.std.proofs.lemmas.Bool.Decides.{nat_tests}
 use Rattle.paging.specs.Failing.{Entry, pages_in, count_of, others, fewest, counted, spared}
 use Rattle.paging.specs.Lists.{has, distinct, place}
-use Rattle.paging.proofs.Entries.{others_absent, count_absent}
+use Rattle.paging.proofs.Entries.{others_absent}
 use Rattle.paging.proofs.Fewest.{fewest_counted}
 use Rattle.least_requested.specs.Counting.{paired, last_least}
 

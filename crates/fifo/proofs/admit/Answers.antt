@@ -1,4 +1,4 @@
-use Rattle.std.proofs.Common.{◌≡◌, ℕ, ◌+◌, ◌-◌, List, take, ap, ◌∙◌, arith}
+use Rattle.std.proofs.Common.{◌≡◌, ℕ, ◌+◌, ◌-◌, take, ap, ◌∙◌, arith}
 use Rattle.paging.specs.Lists.{place}
 use Rattle.fifo.proofs.Admits.{stays, comes}
 use Rattle.fifo.proofs.admit.Goals as goal

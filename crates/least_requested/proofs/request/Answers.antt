@@ -1,4 +1,4 @@
-use Rattle.std.proofs.Common.{◌≡◌, ℕ, ◌+◌, ◌-◌, List, ◌∷◌, take, sym, ap, ◌∙◌, arith}
+use Rattle.std.proofs.Common.{◌≡◌, ℕ, ◌+◌, ◌-◌, ◌∷◌, take, ap, ◌∙◌, arith}
 use Rattle.std.specs.List.{remove}
 use Rattle.paging.specs.Lists.{place}
 use Rattle.least_requested.proofs.Requests.{again, room, full, both}

@@ -1,4 +1,4 @@
-use Rattle.std.proofs.Common.{◌≡◌, ℕ, List, length, take, sym, ap, ◌∙◌}
+use Rattle.std.proofs.Common.{ℕ, List, length, take, sym, ap, ◌∙◌}
 use Rattle.std.proofs.lemmas.List.{with_items_is}
 use Rattle.fifo.specs.Queue.{fifo}
 use Rattle.policies.proofs.Rules.{goes_on}
