@@ -1,4 +1,4 @@
-/* What one request costs on rows that are checked, opened and closed for it: `lru::serve` on a full row, random over 2 k pages. */
+/* What one request costs on rows that are checked, opened and closed for it: `lru_cache::serve` on a full row, random over 2 k pages. */
 #include "bench.h"
 #include <stdio.h>
 #include <string.h>

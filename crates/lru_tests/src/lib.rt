@@ -1,4 +1,4 @@
-// Tests of lru that run: each refusal at its edge, with every number of both rows compared afterwards, and days with what must come of them.
+// Tests of lru_cache that run: each refusal at its edge, with every number of both rows compared afterwards, and days with what must come of them.
 #![tactic(auto)]
 
 #[cfg(test)]

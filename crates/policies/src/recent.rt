@@ -1,4 +1,4 @@
-// LRU, on the cache of crate `lru`: the two rows are the policy's own, and stay open from request to request.
+// LRU, on the cache of crate `lru_cache`: the two rows are the policy's own, and stay open from request to request.
 ghost use Rattle.std.specs.Prelude.{◌≡◌, ◌+◌, ◌*◌, ◌≤◌, true, false, [], length, drop, IfOk, vec_len, MatchOption, slice_index};
 ghost use Rattle.paging.specs.Lru.{lru};
 ghost use Rattle.paging.specs.Rules.{lru_policy};

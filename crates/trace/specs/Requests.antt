@@ -1,7 +1,7 @@
 -- Requests as bytes: four each, low byte first. Assumes nothing: these are definitions.
 --     page_of a b c d       the page that four bytes name
 --     requests_in bytes     the pages that the bytes request, four bytes after four; what is left over requests nothing
---     left-over bytes       what is left over: none to three bytes
+--     left_over bytes       what is left over: none to three bytes
 use Rattle.std.specs.Prelude.{ℕ, ◌+◌, ◌*◌, List, [], ◌∷◌}
 
 abbrev pub page_of : ℕ → ℕ → ℕ → ℕ → ℕ
