@@ -17,13 +17,13 @@ static double least(uint64_t (*play)(size_t, const uint64_t *, size_t, struct re
     return best;
 }
 
-/* Which strides: what tools/strides found to be worst, what is worst for one multiplication, powers of two, inverses of both multipliers. */
+/* Which strides: what was worst for a table of chains, what is worst for one multiplication, powers of two, inverses of both multipliers. */
 static const struct {
     const char *what;
     uint64_t step;
 } strides[] = {
-    {"worst below 2^20", 146667},
-    {"worst of all that were tried", 2975924224u},
+    {"worst below 2^20 for chains", 146667},
+    {"worst for chains of all that were tried", 2975924224u},
     {"a Fibonacci number, bad for one multiplication", 514229},
     {"2^12", 4096},
     {"2^16", 65536},
