@@ -6,11 +6,12 @@ use Rattle.paging.specs.Adversary.{first_missing}
 use Rattle.paging.specs.Lists.{has}
 use Rattle.paging.specs.Stepwise.{Position, complete, next_request}
 use Rattle.lru_cache.specs.declared.refusals.Refusal.{Refusal}
-use Rattle.lru_cache.specs.declared.refusals.Refusal.TheVariants.{BrokenRule, NoPageLeft}
+use Rattle.lru_cache.specs.declared.refusals.Refusal.TheVariants.{NoPageLeft}
 use Rattle.adversary.specs.Rules.{broken, first_odd, lacking, or_else}
 use Rattle.adversary.specs.declared.challenge.Challenge.{Challenge}
 use Rattle.adversary.specs.Places.{asked_in, shown_in, position_in}
-use Rattle.adversary.specs.Steps.{exhausted, refusal, refusal_in, Chosen, Aimed}
+use Rattle.adversary.specs.Steps.{exhausted, told, refusal, refusal_in, Chosen, Aimed}
+use Rattle.adversary.proofs.Broken.{told_first}
 use Rattle.adversary.proofs.Marked.{missing_same}
 
 module _ (k : ℕ) (p : Position) where
@@ -32,9 +33,9 @@ module _ (k : ℕ) (p : Position) where
   aim_same a b same = rw (missing_same p.pages a b same)
 
   module _ (asked before shown : List ℕ) where
-    pub refusal_broken : (at : ℕ) → broken k asked before shown ≡ Some at → refusal k p asked before shown ≡ Some (BrokenRule at)
+    pub refusal_fault : (e : Refusal) → told (broken k asked before shown) None ≡ Some e → refusal k p asked before shown ≡ Some e
     unfolding refusal
-    refusal_broken at e = simp e
+    refusal_fault e is = told_first (broken k asked before shown) (exhausted k p) e is
 
     pub refusal_kept : broken k asked before shown ≡ None → refusal k p asked before shown ≡ exhausted k p
     unfolding refusal

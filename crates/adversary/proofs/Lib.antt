@@ -8,5 +8,4 @@ pub mod Gathered
 pub mod Moved
 pub mod Entered
 pub mod Stepped
-pub mod Backs
 pub mod Written

@@ -49,9 +49,6 @@ module _ (seen allowed shown : List ℕ) (i : ℕ) where
   unfolding first_odd
   odd_all end = at_drop_all (first_odd i seen allowed) shown i end
 
-pub never_none : {P : Type 0} (i : ℕ) → Some i ≡ None → P
-never_none i e = let z : ◌≡◌ {A = ℕ} 0 1 = cc in absurd (omega arith)
-
 -- what is allowed may be read off an index
 pub odd_marked :
     (k asked : ℕ) (index before shown : List ℕ) → Marks k index before →

@@ -1,5 +1,5 @@
 -- The schedule's cache after a new page, written page by page.
-use Rattle.std.proofs.Common.{◌≡◌, ℕ, suc, ◌+◌, ◌<◌, ◌≤◌, cond, ltb, List, [], ◌∷◌, length, get_or, drop, set, refl, ap, ◌∙◌, arith}
+use Rattle.std.proofs.Common.{◌≡◌, ℕ, suc, ◌+◌, ◌<◌, ◌≤◌, cond, ltb, List, [], ◌∷◌, length, get_or, drop, set, ap, ◌∙◌, arith}
 use Rattle.std.proofs.lemmas.List.{at_drop_more, at_drop_all}
 use Rattle.std.proofs.lemmas.Bool.{lt-ltb, le-ltb}
 use Rattle.paging.specs.Adversary.{below, held}
@@ -12,9 +12,6 @@ pub record Writing (list : List ℕ) (page : ℕ) (out : List ℕ) (i n : ℕ) (
   pub whole : stored n (below page (drop i list)) out' ≡ stored 1 (below page list) out
 
 module _ (list : List ℕ) (page : ℕ) (out : List ℕ) where
-  pub writing_none : Writing list page out 0 1 out
-  writing_none = record { count = omega arith; whole = refl }
-
   module _ (i n : ℕ) (out' : List ℕ) (w : Writing list page out i n out') where
     below_here : i < length list → below page (drop i list) ≡ cond (ltb (get_or list i 0) page) (get_or list i 0 ∷ below page (drop (i + 1) list)) (below page (drop (i + 1) list))
     unfolding below

@@ -7,7 +7,6 @@ ghost use Rattle.adversary.specs.Places.{position_in};
 ghost use Rattle.adversary.specs.Steps.{exhausted, refusal_in, Chosen, Aimed};
 
 use crate::challenge::Challenge;
-use crate::marks::first_unmarked;
 use lru_cache::Refusal;
 
 impl Challenge {
@@ -17,9 +16,10 @@ impl Challenge {
         requires sound { Sound self.k seen.now }
         ensures cases { MatchResult result (λ page. Chosen self row.now (recent.pages seen.now) page) (λ e. exhausted self.k (position_in self row.now) ≡ Some e) }
     {
-        let listed = self.listed;
-        if listed > self.k {
-            return Ok(first_unmarked(&row[0..listed], seen, self.k));
+        if self.listed > self.k {
+            let missing = self.first_unmarked(&row[..self.listed], seen);
+            // One of k + 1 pages is missing in a cache of k; where the lent row was overwritten none may be, and 0 is the theory's answer.
+            return Ok(missing.unwrap_or(0));
         }
         if self.next == 0x1_0000_0000 {
             return Err(Refusal::NoPageLeft);
@@ -40,9 +40,7 @@ impl Challenge {
         requires seen_room { 9 * self.k + 5 ≤ length seen.old }
         ensures cases { MatchResult result (λ page. Aimed self row.now shown.now page) (λ e. refusal_in self row.now shown.now ≡ Some e) }
     {
-        if let Some(at) = self.fault(row, shown, before, seen) {
-            return Err(Refusal::BrokenRule(at));
-        }
+        self.refuse(row, shown, before, seen)?;
         self.choose(row, seen)
     }
 }

@@ -9,27 +9,17 @@ use crate::steps::{LARGE_INDEX, SMALL, SMALL_INDEX};
 use lru_cache::Refusal;
 
 impl Challenge {
-    // Where what is shown breaks the rules, with two indexes of N numbers of its own.
-    fn fault_apart<const N: usize>(self, row: &[u64], shown: &[u64]) -> Option<u64>
+    // Refuses what breaks the rules, with two indexes of N numbers of its own.
+    fn refuse_apart<const N: usize>(self, row: &[u64], shown: &[u64]) -> Result<(), Refusal>
         requires long { 3 * self.k + 1 ≤ length row.now }
         requires room { 9 * self.k + 5 ≤ N }
         requires size { N ≤ 65536 }
-        ensures value { result ≡ broken self.k (asked_in self) (shown_in self row.now) shown.now }
+        ensures kept { OnOk result (broken self.k (asked_in self) (shown_in self row.now) shown.now ≡ None) }
+        ensures refused { IfErr result (λ e. fault_in self row.now shown.now ≡ Some e) }
     {
         let mut before = [0u64; N];
         let mut seen = [0u64; N];
-        self.fault(row, shown, &mut before, &mut seen)
-    }
-
-    // The same with small indexes for a small policy.
-    fn fault_at(self, row: &[u64], shown: &[u64]) -> Option<u64>
-        requires long { 3 * self.k + 1 ≤ length row.now }
-        ensures value { result ≡ broken self.k (asked_in self) (shown_in self row.now) shown.now }
-    {
-        if self.k <= SMALL {
-            return self.fault_apart::<SMALL_INDEX>(row, shown);
-        }
-        self.fault_apart::<LARGE_INDEX>(row, shown)
+        self.refuse(row, shown, &mut before, &mut seen)
     }
 
     // Whether what the policy shows after the request that came last keeps the rules.
@@ -40,9 +30,9 @@ impl Challenge {
         if row.len() < 3 * self.k + 1 {
             return Err(Refusal::NoCache);
         }
-        match self.fault_at(row, shown) {
-            Some(at) => Err(Refusal::BrokenRule(at)),
-            None => Ok(()),
+        if self.k <= SMALL {
+            return self.refuse_apart::<SMALL_INDEX>(row, shown);
         }
+        self.refuse_apart::<LARGE_INDEX>(row, shown)
     }
 }

@@ -3,73 +3,46 @@ ghost use Rattle.std.specs.Prelude.{◌≡◌, ◌+◌, ◌*◌, ◌<◌, ◌≤
 ghost use Rattle.paging.specs.Adversary.{once_each};
 ghost use Rattle.adversary.specs.Rules.{Marks};
 
-use crate::marks::mark;
+use crate::challenge::Challenge;
 use recency::Outcome;
 
-// Notes a page behind the `noted` ones that `seen` has marked, unless it is among them or there are h, and says how many there are then.
-fn add(row: &mut [u64], k: usize, h: usize, noted: usize, page: u64, seen: &mut [u64]) -> usize
-    requires high { k ≤ 4096 }
-    requires long { 3 * k + 1 ≤ length row.old }
-    requires within { h ≤ k }
-    requires few { noted ≤ h }
-    requires marked { Marks k seen.old (take noted (drop (k + 1) row.old)) }
-    ensures few { result ≤ h }
-    ensures after { take result (drop (k + 1) row.new) ≡ take h (once_each (take noted (drop (k + 1) row.old)) (page ∷ [])) }
-    ensures marked { Marks k seen.new (take result (drop (k + 1) row.new)) }
-    ensures front { take (k + 1) row.new ≡ take (k + 1) row.old }
-    ensures rest { drop (2 * k + 1) row.new ≡ drop (2 * k + 1) row.old }
-{
-    if noted == h {
-        return noted;
+impl Challenge {
+    // Notes a page behind the `noted` ones that `seen` has marked, unless it is among them or there are h, and says how many there are
+    // then. `picked` is the row from the pages picked on.
+    fn add(self, picked: &mut [u64], noted: usize, page: u64, seen: &mut [u64]) -> usize
+        requires long { self.k ≤ length picked.old }
+        requires few { noted ≤ self.h }
+        requires marked { Marks self.k seen.old (take noted picked.old) }
+        ensures few { result ≤ self.h }
+        ensures after { take result picked.new ≡ take self.h (once_each (take noted picked.old) (page ∷ [])) }
+        ensures marked { Marks self.k seen.new (take result picked.new) }
+        ensures rest { drop self.k picked.new ≡ drop self.k picked.old }
+    {
+        if noted == self.h {
+            return noted;
+        }
+        if recency::request(seen, self.k, page) == Outcome::Hit {
+            return noted;
+        }
+        picked[noted] = page;
+        noted + 1
     }
-    if let Outcome::Hit = recency::request(seen, k, page) {
-        return noted;
-    }
-    row[k + 1 + noted] = page;
-    noted + 1
-}
 
-// Notes the pages of the round's list in order.
-fn add_list(row: &mut [u64], k: usize, h: usize, noted: usize, seen: &mut [u64]) -> usize
-    requires high { k ≤ 4096 }
-    requires long { 3 * k + 1 ≤ length row.old }
-    requires within { h ≤ k }
-    requires few { noted ≤ h }
-    requires marked { Marks k seen.old (take noted (drop (k + 1) row.old)) }
-    ensures few { result ≤ h }
-    ensures after { take result (drop (k + 1) row.new) ≡ take h (once_each (take noted (drop (k + 1) row.old)) (take (k + 1) row.old)) }
-    ensures rest { drop (2 * k + 1) row.new ≡ drop (2 * k + 1) row.old }
-{
-    let mut n = noted;
-    for i in 0..k + 1 {
-        let page = row[i];
-        n = add(row, k, h, n, page, seen);
+    // Notes the last new page and then those of the round's list, where the round is over, and says how many there are then.
+    pub(crate) fn gather(self, row: &mut [u64], noted: usize, last: u64, seen: &mut [u64]) -> usize
+        requires long { 3 * self.k + 1 ≤ length row.old }
+        requires few { noted ≤ self.h }
+        requires room { 9 * self.k + 5 ≤ length seen.old }
+        ensures few { result ≤ self.h }
+        ensures after { take result (drop (self.k + 1) row.new) ≡ take self.h (once_each (take noted (drop (self.k + 1) row.old)) (last ∷ take (self.k + 1) row.old)) }
+        ensures rest { drop (2 * self.k + 1) row.new ≡ drop (2 * self.k + 1) row.old }
+    {
+        let (list, picked) = row.split_at_mut(self.k + 1);
+        self.mark(seen, &picked[..noted]);
+        let mut n = self.add(picked, noted, last, seen);
+        for page in list.iter() {
+            n = self.add(picked, n, *page, seen);
+        }
+        n
     }
-    n
-}
-
-// Notes the last new page and then those of the round's list, where the round is over, and says how many there are then.
-pub(crate) fn gather(
-    row: &mut [u64],
-    k: usize,
-    h: usize,
-    noted: usize,
-    last: u64,
-    seen: &mut [u64],
-) -> usize
-    requires low { 1 ≤ k }
-    requires high { k ≤ 4096 }
-    requires long { 3 * k + 1 ≤ length row.old }
-    requires within { h ≤ k }
-    requires few { noted ≤ h }
-    requires room { 9 * k + 5 ≤ length seen.old }
-    ensures few { result ≤ h }
-    ensures after { take result (drop (k + 1) row.new) ≡ take h (once_each (take noted (drop (k + 1) row.old)) (last ∷ take (k + 1) row.old)) }
-    ensures rest { drop (2 * k + 1) row.new ≡ drop (2 * k + 1) row.old }
-{
-    let from = k + 1;
-    let to = from + noted;
-    mark(seen, k, &row[from..to]);
-    let n = add(row, k, h, noted, last, seen);
-    add_list(row, k, h, n, seen)
 }

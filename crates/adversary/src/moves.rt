@@ -6,40 +6,24 @@ ghost use Rattle.adversary.specs.Places.{position_in};
 ghost use Rattle.adversary.specs.Moves.{Over, Moved};
 
 use crate::challenge::Challenge;
-use crate::gathers::gather;
-use crate::rows::{bring, note};
 
 impl Challenge {
     // The round is over: the row has all its pages and `noted` picked ones, and the schedule's list comes to the front.
-    fn over(
-        self,
-        row: &mut [u64],
-        next: u64,
-        noted: usize,
-        last: u64,
-        shown: usize,
-        seen: &mut [u64],
-    ) -> Challenge
+    fn over(self, row: &mut [u64], noted: usize, seen: &mut [u64]) -> Challenge
         requires long { 3 * self.k + 1 ≤ length row.old }
         requires room { 9 * self.k + 5 ≤ length seen.old }
+        requires all { self.k < self.listed }
         requires few { noted ≤ self.h }
-        requires older { self.k + 1 < next }
-        requires left { next ≤ 4294967296 }
-        requires shown { shown ≤ self.k }
-        ensures over { Over self row.old next noted last shown result row.new }
+        ensures over { Over self row.old noted result row.new }
     {
-        let listed = gather(row, self.k, self.h, noted, next - 1, seen);
-        bring(row, self.k, listed);
-        Challenge {
-            k: self.k,
-            h: self.h,
-            next,
-            listed,
-            noted: 0,
-            picks: 0,
-            shown,
-            last,
-        }
+        let listed = self.gather(row, noted, self.next - 1, seen);
+        self.bring(row, listed);
+        // Field by field: a literal with `..` is not taken for a struct with ghost fields.
+        let mut over = self;
+        over.listed = listed;
+        over.noted = 0;
+        over.picks = 0;
+        over
     }
 
     // A new page is requested, where the round's list has room for it.
@@ -52,22 +36,15 @@ impl Challenge {
         ensures moved { Moved self row.old self.next shown result row.new }
     {
         row[self.listed] = self.next;
-        let next = self.next + 1;
-        let reached = self.picks + 1;
-        if self.listed < self.k || reached < self.h {
-            let listed = self.listed + 1;
-            return Challenge {
-                k: self.k,
-                h: self.h,
-                next,
-                listed,
-                noted: self.noted,
-                picks: self.picks,
-                shown,
-                last: self.next,
-            };
+        let mut entered = self;
+        entered.next += 1;
+        entered.listed += 1;
+        entered.shown = shown;
+        entered.last = self.next;
+        if self.listed < self.k || self.picks + 1 < self.h {
+            return entered;
         }
-        self.over(row, next, self.noted, self.next, shown, seen)
+        entered.over(row, self.noted, seen)
     }
 
     // A page of the round's list is requested, which has all its pages.
@@ -78,21 +55,16 @@ impl Challenge {
         requires shown { shown ≤ self.k }
         ensures moved { Moved self row.old page shown result row.new }
     {
-        let noted = note(row, self.k, self.noted, page);
+        let noted = self.note(row, page);
+        let mut entered = self;
+        entered.shown = shown;
+        entered.last = page;
         if self.picks + 2 < self.h {
-            let picks = self.picks + 1;
-            return Challenge {
-                k: self.k,
-                h: self.h,
-                next: self.next,
-                listed: self.listed,
-                noted,
-                picks,
-                shown,
-                last: page,
-            };
+            entered.picks += 1;
+            entered.noted = noted;
+            return entered;
         }
-        self.over(row, self.next, noted, page, shown, seen)
+        entered.over(row, noted, seen)
     }
 
     // The request for the page that is aimed at is entered, before which `shown` pages were shown.

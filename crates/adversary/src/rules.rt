@@ -1,115 +1,90 @@
 // Whether what a policy shows after a request keeps the rules of a cache.
-ghost use Rattle.std.specs.Prelude.{◌≡◌, ◌+◌, ◌*◌, ◌≤◌, [], ◌∷◌, ◌++◌, length, None};
+ghost use Rattle.std.specs.Prelude.{◌≡◌, ◌+◌, ◌*◌, ◌<◌, ◌≤◌, [], ◌∷◌, ◌++◌, length, Some, None, MatchResult};
 ghost use Rattle.paging.specs.Lists.{has};
 ghost use Rattle.recency.specs.Row as recent;
 ghost use Rattle.recency.specs.Sound.{Sound};
 ghost use Rattle.adversary.specs.Rules.{first_odd, broken, Marks};
 ghost use Rattle.adversary.specs.Places.{asked_in, shown_in};
+ghost use Rattle.adversary.specs.Steps.{told, fault_in};
 
 use crate::challenge::Challenge;
-use crate::marks::mark;
+use lru_cache::Refusal;
 use recency::Outcome;
 
-// Whether a page may be shown: it was just requested, or shown before.
-fn allowed(before: &[u64], k: usize, asked: u64, page: u64) -> bool
-    requires sound { Sound k before.now }
-    ensures value { result ≡ has (asked ∷ recent.pages before.now) page }
-{
-    if page == asked {
-        return true;
-    }
-    recency::contains(before, k, page)
-}
-
-// The place of the first page shown that equals one before it or is not allowed. Where there is none, `seen` has the pages marked.
-fn first_odd(shown: &[u64], k: usize, asked: u64, before: &[u64], seen: &mut [u64]) -> Option<u64>
-    requires few { length shown.now ≤ k }
-    requires marked { Sound k before.now }
-    requires clear { Marks k seen.old [] }
-    ensures value { result ≡ first_odd 0 [] (asked ∷ recent.pages before.now) shown.now }
-    ensures seen { result ≡ None → Marks k seen.new shown.now }
-{
-    for i in 0..shown.len() {
-        if !allowed(before, k, asked, shown[i]) {
-            return Some(i as u64);
-        }
-        if let Outcome::Hit = recency::request(seen, k, shown[i]) {
-            return Some(i as u64);
-        }
-    }
-    None
-}
-
-// Where what is shown before the first request breaks the rules: nothing may be. Where nothing is, `seen` has no page marked.
-fn fault_first(shown: &[u64], k: usize, seen: &mut [u64]) -> Option<u64>
-    requires low { 1 ≤ k }
-    requires high { k ≤ 4096 }
-    requires room { 9 * k + 5 ≤ length seen.old }
-    ensures value { result ≡ broken k [] [] shown.now }
-    ensures seen { result ≡ None → Marks k seen.new shown.now }
-{
-    let _ = recency::clear(seen, k);
-    let n = shown.len();
-    if n > k {
-        return Some(n as u64);
-    }
-    if n > 0 {
-        return Some(0);
-    }
-    None
-}
-
-// The same after a request for `asked`, before which `showed` was shown. Where no rule is broken `seen` has the pages marked.
-fn fault_after(
-    shown: &[u64],
-    k: usize,
-    asked: u64,
-    showed: &[u64],
-    before: &mut [u64],
-    seen: &mut [u64],
-) -> Option<u64>
-    requires low { 1 ≤ k }
-    requires high { k ≤ 4096 }
-    requires few { length showed.now ≤ k }
-    requires before_room { 9 * k + 5 ≤ length before.old }
-    requires seen_room { 9 * k + 5 ≤ length seen.old }
-    ensures value { result ≡ broken k (asked ∷ []) showed.now shown.now }
-    ensures seen { result ≡ None → Marks k seen.new shown.now }
-{
-    if shown.len() > k {
-        return Some(shown.len() as u64);
-    }
-    mark(before, k, showed);
-    let _ = recency::clear(seen, k);
-    if let Some(at) = first_odd(shown, k, asked, before, seen) {
-        return Some(at);
-    }
-    if !recency::contains(seen, k, asked) {
-        return Some(shown.len() as u64);
-    }
-    None
-}
-
 impl Challenge {
-    // Where what is shown breaks the rules, after the request that came last. Where it doesn't `seen` has the pages marked.
-    pub(crate) fn fault(
+    // Whether a page may be shown: it was just requested, or shown before.
+    fn allows(self, before: &[u64], page: u64) -> bool
+        requires sound { Sound self.k before.now }
+        ensures value { result ≡ has (self.last ∷ recent.pages before.now) page }
+    {
+        page == self.last || recency::contains(before, self.k, page)
+    }
+
+    // Refuses the first page shown that equals one before it or is not allowed. Where there is none, `seen` has the pages marked.
+    fn refuse_odd(self, shown: &[u64], before: &[u64], seen: &mut [u64]) -> Result<(), Refusal>
+        requires few { length shown.now ≤ self.k }
+        requires marked { Sound self.k before.now }
+        requires clear { Marks self.k seen.old [] }
+        ensures cases { MatchResult result (λ _. (first_odd 0 [] (self.last ∷ recent.pages before.now) shown.now ≡ None) × Marks self.k seen.new shown.now) (λ e. told (first_odd 0 [] (self.last ∷ recent.pages before.now) shown.now) None ≡ Some e) }
+    {
+        for (i, page) in shown.iter().enumerate() {
+            if !self.allows(before, *page) {
+                return Err(Refusal::BrokenRule(i as u64));
+            }
+            if recency::request(seen, self.k, *page) == Outcome::Hit {
+                return Err(Refusal::BrokenRule(i as u64));
+            }
+        }
+        Ok(())
+    }
+
+    // Refuses what breaks the rules after a request, where no more is shown than there are places. Where nothing does, `seen`, which is
+    // empty, has the pages marked.
+    fn refuse_after(
         self,
         row: &[u64],
         shown: &[u64],
         before: &mut [u64],
         seen: &mut [u64],
-    ) -> Option<u64>
+    ) -> Result<(), Refusal>
+        requires long { 3 * self.k + 1 ≤ length row.now }
+        requires before_room { 9 * self.k + 5 ≤ length before.old }
+        requires few { length shown.now ≤ self.k }
+        requires clear { Marks self.k seen.old [] }
+        requires begun { 1 < self.next }
+        ensures cases { MatchResult result (λ _. (broken self.k (asked_in self) (shown_in self row.now) shown.now ≡ None) × Marks self.k seen.new shown.now) (λ e. fault_in self row.now shown.now ≡ Some e) }
+    {
+        self.mark(before, self.before(row));
+        self.refuse_odd(shown, before, seen)?;
+        if !recency::contains(seen, self.k, self.last) {
+            return Err(Refusal::BrokenRule(shown.len() as u64));
+        }
+        Ok(())
+    }
+
+    // Refuses what breaks the rules: before the first request nothing may be shown. Where nothing does, `seen` has the pages marked.
+    pub(crate) fn refuse(
+        self,
+        row: &[u64],
+        shown: &[u64],
+        before: &mut [u64],
+        seen: &mut [u64],
+    ) -> Result<(), Refusal>
         requires long { 3 * self.k + 1 ≤ length row.now }
         requires before_room { 9 * self.k + 5 ≤ length before.old }
         requires seen_room { 9 * self.k + 5 ≤ length seen.old }
-        ensures value { result ≡ broken self.k (asked_in self) (shown_in self row.now) shown.now }
-        ensures seen { result ≡ None → Marks self.k seen.new shown.now }
+        ensures cases { MatchResult result (λ _. (broken self.k (asked_in self) (shown_in self row.now) shown.now ≡ None) × Marks self.k seen.new shown.now) (λ e. fault_in self row.now shown.now ≡ Some e) }
     {
-        if self.next == 1 {
-            return fault_first(shown, self.k, seen);
+        if shown.len() > self.k {
+            return Err(Refusal::BrokenRule(shown.len() as u64));
         }
-        let from = 2 * self.k + 1;
-        let to = from + self.shown;
-        fault_after(shown, self.k, self.last, &row[from..to], before, seen)
+        let _ = recency::clear(seen, self.k);
+        if self.next > 1 {
+            return self.refuse_after(row, shown, before, seen);
+        }
+        if !shown.is_empty() {
+            return Err(Refusal::BrokenRule(0));
+        }
+        Ok(())
     }
 }

@@ -5,7 +5,7 @@ ghost use Rattle.adversary.specs.Beside.{ended, news_of, new_at, cache_in, writt
 
 use crate::challenge::Challenge;
 
-// Writes a number, where there is a place for it.
+// Writes a number, where there is a place for it. By index: of what is written through `get_mut` a proof knows the length alone.
 fn put(out: &mut [u64], i: usize, x: u64)
     ensures after { out.new ≡ slice_set out.old i x }
 {
@@ -22,12 +22,11 @@ fn write_held(list: &[u64], page: u64, out: &mut [u64]) -> usize
 {
     put(out, 0, page);
     let mut n = 1;
-    for i in 0..list.len() {
-        if list[i] >= page {
-            continue;
+    for other in list {
+        if *other < page {
+            put(out, n, *other);
+            n += 1;
         }
-        put(out, n, list[i]);
-        n += 1;
     }
     n
 }
@@ -51,10 +50,7 @@ impl Challenge {
     {
         let news = self.news();
         let first = self.next.saturating_sub(news as u64);
-        if i < news {
-            return first + i as u64;
-        }
-        first + (news - 1) as u64
+        first + i.min(news - 1) as u64
     }
 
     // At the end of the opening or of a round: writes the schedule's cache after its request i, from 0 on, as far as `out` goes, and says
@@ -63,16 +59,9 @@ impl Challenge {
         ensures cases { MatchOption result (ended self row.now ≡ false) (λ n. (ended self row.now ≡ true) × (n ≡ length (cache_in self row.now i))) }
         ensures after { out.new ≡ (if ended self row.now then written out.old (cache_in self row.now i) else out.old) }
     {
-        if row.len() < 3 * self.k + 1 {
+        if row.len() < 3 * self.k + 1 || self.listed != self.h || self.picks != 0 {
             return None;
         }
-        let listed = self.listed;
-        if listed != self.h {
-            return None;
-        }
-        if self.picks != 0 {
-            return None;
-        }
-        Some(write_held(&row[0..listed], self.new_at(i), out))
+        Some(write_held(&row[..self.listed], self.new_at(i), out))
     }
 }

@@ -3,11 +3,12 @@ ghost use Rattle.std.specs.Prelude.{◌≡◌, ◌+◌, ◌*◌, ◌<◌, ◌≤
 ghost use Rattle.adversary.specs.Steps.{refusal_in, if_long, Stepped};
 
 use crate::challenge::Challenge;
-use crate::rows::store;
 use lru_cache::Refusal;
 use recency::MAX_CAPACITY;
 
 // What a small policy is tested with, and any other. The larger two cost more to clear than a small policy to test.
+// `step` and `accept` each choose: of a closure that one function would lend the indexes, a proof knows what it answers, and not what it
+// wrote in the row.
 pub(crate) const SMALL: usize = 64;
 
 pub(crate) const SMALL_INDEX: usize = 9 * SMALL + 5;
@@ -29,7 +30,7 @@ impl Challenge {
         ensures cases { MatchResult result (λ c. Stepped self row.old shown.now c row.new) (λ e. (refusal_in self row.old shown.now ≡ Some e) × (row.new ≡ row.old)) }
     {
         let page = self.aim(row, shown, before, seen)?;
-        store(row, self.k, shown);
+        self.store(row, shown);
         Ok(self.enter(row, page, shown.len(), seen))
     }
 

@@ -3,14 +3,14 @@ use Rattle.std.proofs.Common.{◌≡◌, ℕ, zero, suc, ◌+◌, ◌<◌, ◌�
 use Rattle.std.proofs.lemmas.List.{length-take-le, get_or-take, take_at}
 use Rattle.std.proofs.lemmas.Bool.{cases_lt, lt-ltb, le-ltb}
 use Rattle.paging.specs.Belady.{next_use, belady}
-use Rattle.paging.specs.Lists.{has, without, distinct, place}
+use Rattle.paging.specs.Lists.{has, without, distinct}
 use Rattle.paging.proofs.Keyed.{Keyed}
-use Rattle.curve.proofs.Stacks.{lifted, stack_absent, taken_out}
+use Rattle.curve.proofs.Stacks.{lifted, taken_out}
 use Rattle.belady.specs.Ahead.{next_at}
 use Rattle.belady.specs.Kept.{Kept, Place}
 use Rattle.belady.proofs.Keeping.{Stepped, stepped}
 use Rattle.belady.proofs.Rekeyed.{key_stays, keyed_lifted}
-use Rattle.belady.proofs.Standing.{place_before, place_at}
+use Rattle.belady.proofs.Standing.{place_before, place_at, place_absent}
 use Rattle.belady.proofs.Victims.{furthest_at}
 
 -- in front of n others
@@ -32,17 +32,15 @@ replaced page pages (suc n) end within lt once =
 module _
     (h : ℕ) (trace : List ℕ) (i : ℕ) (pages keys : List ℕ) (n : ℕ) (kept : Kept h trace i pages keys n) (lt : i < length trace)
     (in-pages : h ≤ length pages) (in-keys : h ≤ length keys) (next : ℕ) (is-next : next ≡ next_at trace i)
-    (at : ℕ) (is : at ≡ place (get_or trace i 0) (take n pages)) (beyond : n ≤ at) (end : ℕ) (place-for : Place h keys n end)
+    (absent : has (take n pages) (get_or trace i 0) ≡ false) (end : ℕ) (place-for : Place h keys n end)
   where
     apart : (j : ℕ) → j < n → get_or pages j 0 ≡ get_or trace i 0 → ⊥
     apart j lt e =
         let few = kept.few in
         let len = length-take-le n pages (omega arith) in
         let before = place_before (take n pages) j (omega arith) in
+        let past = place_absent (get_or trace i 0) (take n pages) absent in
         omega (arith, rw (get_or-take n pages j 0 lt ∙ e) at before)
-
-    pub absent : has (take n pages) (get_or trace i 0) ≡ false
-    absent = let few = kept.few in stack_absent (get_or trace i 0) pages n (omega arith) at is beyond
 
     rekeyed :
         (m : ℕ) → end < h → ((j : ℕ) → suc j < m → (j < n) × (end ≤ j → suc j < n)) →

@@ -2,7 +2,6 @@ pub mod Carried
 pub mod Comings
 pub mod Halves
 pub mod Keeping
-pub mod Known
 pub mod Outcomes
 pub mod Passes
 pub mod Rekeyed

@@ -1,8 +1,8 @@
 -- Where a page stands that is read at a place.
-use Rattle.std.proofs.Common.{◌≡◌, ℕ, zero, suc, ◌<◌, ◌≤◌, true, List, [], ◌∷◌, length, get_or, arith}
+use Rattle.std.proofs.Common.{◌≡◌, ℕ, zero, suc, ◌<◌, ◌≤◌, true, false, List, [], ◌∷◌, length, get_or, arith}
 use Rattle.std.proofs.lemmas.Bool.Decides.{nat_tests}
-use Rattle.paging.specs.Lists.{distinct, place}
-use Rattle.paging.proofs.Places.{has_place}
+use Rattle.paging.specs.Lists.{has, distinct, place}
+use Rattle.paging.proofs.Places.{has_place, place_le}
 
 pub place_before : (xs : List ℕ) (j : ℕ) → j < length xs → place (get_or xs j 0) xs ≤ j
 unfolding place
@@ -24,3 +24,6 @@ unfolding place
 get_or_place x [] k at lt = absurd (omega arith)
 get_or_place x (y ∷ ys) zero at lt = grind (arith, nat_tests)
 get_or_place x (y ∷ ys) (suc k) at lt = let i = get_or_place x ys k in grind (arith, nat_tests)
+
+pub place_absent : (x : ℕ) (xs : List ℕ) → has xs x ≡ false → place x xs ≡ length xs
+place_absent x xs absent = let h = has_place x xs in let l = place_le x xs in grind (arith, nat_tests)

@@ -8,6 +8,7 @@ use crate::sieve::Sieve;
 use curve::{MAX_REQUESTS, settle};
 
 // Writes what Belady's rule fetches from an empty cache with 1, 2 .. places, as many as the row has numbers.
+#[tactic(auto, using(crate::proofs::Passes::tally_enough))]
 pub fn count(trace: &[u64], row: &mut [u64])
     requires short { length trace.now ≤ 4096 }
     requires low { 1 ≤ length row.old }
@@ -21,7 +22,8 @@ pub fn count(trace: &[u64], row: &mut [u64])
     settle(row, trace.len() as u64);
 }
 
-// Counts at each place of the row for every capacity how many requests find their page there.
+// Counts at each place of the row for every capacity how many requests find their page there. The trace and its next uses come apart, as
+// `Foresight::request` is lent them.
 fn tally(trace: &[u64], next: &[u64], hits: &mut [u64])
     requires short { length trace.now ≤ 4096 }
     requires long { length trace.now ≤ length next.now }
@@ -32,7 +34,7 @@ fn tally(trace: &[u64], next: &[u64], hits: &mut [u64])
     ensures after { Tally trace.now hits.new }
 {
     let mut sieve = Sieve::new();
-    for i in 0..trace.len() {
-        sieve.request(trace, i, next[i], hits);
+    for (i, &again) in next[..trace.len()].iter().enumerate() {
+        sieve.request(trace, i, again, hits);
     }
 }

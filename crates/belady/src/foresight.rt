@@ -3,22 +3,30 @@
 ghost use Rattle.std.specs.Prelude.{◌≡◌, ℕ, ◌+◌, ◌<◌, ◌≤◌, not, List, [], length, drop, slice_index, slice_index_or};
 ghost use Rattle.paging.specs.Belady.{belady, belady_schedule};
 ghost use Rattle.paging.specs.Lists.{has};
-ghost use Rattle.belady.specs.Ahead.{Nexts};
-ghost use Rattle.belady.specs.Kept.{held, Ready, Place};
 
-use crate::places::{find, latest};
-use curve::{MAX_CAPACITIES, lift};
+use crate::places::latest;
+use curve::MAX_CAPACITIES;
+use rows::{find, put_first};
 
-// Beside each page stands when it is requested next.
+// There is no heap here, so both rows have places for as many pages as the largest capacity of a report has use for.
 #[derive(Drop)]
 pub struct Foresight {
     places: usize,
+    // the page that came last first: they are lent as one slice, so their keys stand beside them
     pages: [u64; MAX_CAPACITIES],
+    // when the page at the same place is requested next
     keys: [u64; MAX_CAPACITIES],
+    // how many there are
     len: usize,
+    ghost low: { 1 ≤ places },
+    ghost high: { places ≤ 4096 },
+    ghost few: { len ≤ places },
 }
 
 impl Foresight {
+    ghost use Rattle.belady.specs.Ahead.{Nexts};
+    ghost use Rattle.belady.specs.Kept.{held, Ready, Place};
+
     // An empty cache of h places.
     pub fn new(h: usize) -> Foresight
         requires low { 1 ≤ h }
@@ -37,22 +45,19 @@ impl Foresight {
 
     // Its pages, the one that came last first.
     pub fn cache(&self) -> &[u64]
-        requires few { self.now.len ≤ 4096 }
         ensures value { result.now ≡ held self.now }
     {
-        &self.pages[0..self.len]
+        &self.pages[..self.len]
     }
 
     // The place that a page takes which comes into the cache.
     fn place_for(&self) -> usize
-        requires low { 1 ≤ self.now.places }
-        requires few { self.now.len ≤ 4096 }
         ensures value { Place self.now.places self.now.keys self.now.len result }
     {
         if self.len < self.places {
             return self.len;
         }
-        latest(&self.keys, self.len)
+        latest(&self.keys[..self.len])
     }
 
     // Serves the i-th request of a trace, with where each request's page is requested next. Answers whether the page was fetched.
@@ -67,14 +72,14 @@ impl Foresight {
         ensures places { self.new.places ≡ self.old.places }
         ensures ready { Ready trace.now (i + 1) self.new }
     {
-        let at = find(&self.pages, self.len, trace[i]);
-        if at < self.len {
+        let page = trace[i];
+        if let Some(at) = find(self.cache(), page) {
             self.keys[at] = next[i];
             return false;
         }
         let end = self.place_for();
-        lift(&mut self.pages, end, trace[i]);
-        lift(&mut self.keys, end, next[i]);
+        put_first(&mut self.pages, end, page);
+        put_first(&mut self.keys, end, next[i]);
         self.len = self.places.min(self.len + 1);
         true
     }

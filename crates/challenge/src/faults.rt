@@ -1,13 +1,9 @@
 // Why a policy is not challenged.
 use contest::Fault as Cause;
-use std::io;
+use std::{fmt, io};
 
 #[derive(Clone, Copy)]
 pub(crate) enum Fault {
-    // the arguments are no text
-    Arguments(io::Error),
-    // the arguments are wrong, which is told already
-    Wrong,
     // the input can't be opened or read
     Input(io::Error),
     // the input ends after so many bytes
@@ -20,22 +16,29 @@ pub(crate) enum Fault {
     Output(io::Error),
 }
 
-// Says on standard error what the fault is, in an input of that name.
-pub(crate) fn tell(rt: &HostRuntime, name: &str, fault: Fault) -> io::Result<()> {
-    match fault {
-        Fault::Arguments(e) => eprintln!(rt; "challenge: cannot read the arguments: {e}"),
-        Fault::Wrong => Ok(()),
-        Fault::Input(e) => eprintln!(rt; "challenge: cannot read {name}: {e}"),
-        Fault::Short(n) => eprintln!(rt; "challenge: {name} ends after {n} of 7 bytes"),
-        Fault::Long => eprintln!(rt; "challenge: {name} goes on after 7 bytes"),
-        Fault::Contest(Cause::NoPolicy(policy)) => eprintln!(rt;
-            "challenge: {name} asks for policy {policy} in byte 7: there are 0, 1 and 2"
-        ),
-        Fault::Contest(Cause::Output(e)) => eprintln!(rt;
-            "challenge: cannot write to standard output: {e}"
-        ),
-        Fault::Contest(Cause::Memory) => eprintln!(rt; "challenge: out of memory"),
-        Fault::Contest(Cause::Refused(_)) => eprintln!(rt; "challenge: {name} is refused"),
-        Fault::Output(e) => eprintln!(rt; "challenge: cannot write to standard output: {e}"),
+// A fault, in the input of that name.
+#[derive(Clone, Copy)]
+pub(crate) struct Told<'a> {
+    pub(crate) name: &'a str,
+    pub(crate) fault: Fault,
+}
+
+impl fmt::Display for Told<'_> {
+    fn fmt<W: fmt::Write>(&self, f: &mut fmt::Formatter<W>) -> fmt::Result {
+        let Told { name, fault } = *self;
+        match fault {
+            Fault::Input(e) => write!(f, "challenge: cannot read {name}: {e}"),
+            Fault::Short(n) => write!(f, "challenge: {name} ends after {n} of 7 bytes"),
+            Fault::Long => write!(f, "challenge: {name} goes on after 7 bytes"),
+            Fault::Contest(Cause::NoPolicy(policy)) => write!(
+                f,
+                "challenge: {name} asks for policy {policy} in byte 7: there are 0, 1 and 2"
+            ),
+            Fault::Contest(Cause::Output(e)) | Fault::Output(e) => {
+                write!(f, "challenge: cannot write to standard output: {e}")
+            }
+            Fault::Contest(Cause::Memory) => write!(f, "challenge: out of memory"),
+            Fault::Contest(Cause::Refused(_)) => write!(f, "challenge: {name} is refused"),
+        }
     }
 }

@@ -1,11 +1,14 @@
 // What a challenge comes to, counted from what was seen of it.
 ghost use Rattle.std.specs.Prelude.{◌≤◌};
 
-use crate::caches::{Cache, PLACES};
-use crate::faults::Fault;
+use crate::caches::may_follow;
+use crate::setting::{PLACES, Setting};
 use adversary::Challenge;
+use anyhow::{Context, ensure};
 use belady::report;
+use lru_cache::Refusal;
 use std::alloc::{AllocError, Global};
+use std::fmt;
 
 // The requests so far, and what the policy and the schedule did.
 #[derive(Drop)]
@@ -14,7 +17,7 @@ pub struct Seen {
     // how many requests the policy did not have
     keeper: u64,
     // the schedule's cache, and how many requests it did not have
-    cache: Cache,
+    cache: Vec<u64>,
     rival: u64,
 }
 
@@ -23,7 +26,7 @@ impl Seen {
         Seen {
             trace: Vec::new(heap),
             keeper: 0,
-            cache: Cache::empty(),
+            cache: Vec::new(heap),
             rival: 0,
         }
     }
@@ -37,69 +40,79 @@ impl Seen {
         Ok(())
     }
 
-    // Reads the caches of a schedule with h places after each of the last n requests, which were a round.
-    pub fn read(
-        &mut self,
-        challenge: Challenge,
-        row: &[u64],
-        n: usize,
-        h: usize,
-    ) -> Result<(), Fault> {
+    // Reads the caches of the schedule after each of the last n requests, which were a round.
+    pub fn read(&mut self, challenge: Challenge, row: &[u64], n: usize) -> anyhow::Result<()> {
         let from = self.trace.len().saturating_sub(n);
-        for i in 0..n {
-            let Some(page) = self.trace.get(from.wrapping_add(i)).copied() else {
-                return Err(Fault::Infeasible);
-            };
+        for (i, page) in self.trace.iter().skip(from).enumerate() {
             let mut pages = [0; PLACES];
-            let Some(count) = challenge.cache_beside(row, i, &mut pages) else {
-                return Err(Fault::Infeasible);
-            };
-            let next = Cache { pages, count };
-            if !next.may_follow(&self.cache, page, h) {
-                return Err(Fault::Infeasible);
-            }
-            if !self.cache.holds(page) {
+            let count = challenge.cache_beside(row, i, &mut pages);
+            let next = count
+                .and_then(|count| pages.get(..count))
+                .context("a cache of the schedule can't be had")?;
+            ensure!(
+                may_follow(next, &self.cache, *page, challenge.h),
+                "a cache of the schedule breaks the rules"
+            );
+            if !self.cache.contains(page) {
                 self.rival = self.rival.saturating_add(1);
             }
-            self.cache = next;
+            self.cache.clear();
+            self.cache.extend_from_slice(next)?;
         }
         Ok(())
     }
 
-    // The counts beside h places.
-    pub fn count(&self, h: usize) -> Counts
-        requires low { 1 ≤ h }
-        requires high { h ≤ 6 }
-    {
-        let mut row = [u64::MAX; 2 * PLACES];
-        let _ = report(self.trace.as_slice(), PLACES, &mut row);
-        Counts {
+    // The counts beside a schedule.
+    pub fn count(&self, setting: Setting) -> Result<Counts, Refusal> {
+        let mut row = [0; 2 * PLACES];
+        report(&self.trace, PLACES, &mut row)?;
+        Ok(Counts {
             asked: self.trace.len() as u64,
             keeper: self.keeper,
             rival: self.rival,
-            known: row[PLACES + h - 1],
-        }
+            known: row[PLACES + setting.h - 1],
+        })
     }
 }
 
 // How many requests there were, how many of them the policy fetched, how many the schedule, and the fewest that anybody could.
-#[derive(Clone, Copy)]
+#[derive(Clone, Copy, PartialEq, Eq)]
 pub struct Counts {
-    pub asked: u64,
-    pub keeper: u64,
-    pub rival: u64,
-    pub known: u64,
+    asked: u64,
+    keeper: u64,
+    rival: u64,
+    known: u64,
 }
 
 impl Counts {
-    // Whether they are what so many rounds should come to. The schedule fetches each page once, so that nobody could fetch fewer.
-    pub fn right(self, k: u64, h: u64, rounds: u64) -> bool
-        requires low { 1 ≤ h }
-        requires within { h ≤ k }
-        requires high { k ≤ 6 }
+    // What so many rounds should come to. The schedule fetches each page once, so that nobody could fetch fewer.
+    pub fn of(setting: Setting, rounds: u64) -> Counts
         requires few { rounds ≤ 6 }
     {
-        let all = self.asked == h + rounds * k && self.keeper == self.asked;
-        all && self.rival == h + rounds * (k + 1 - h) && self.known == self.rival
+        let k = setting.k as u64;
+        let h = setting.h as u64;
+        let asked = h + rounds * k;
+        let rival = h + rounds * (k + 1 - h);
+        Counts {
+            asked,
+            keeper: asked,
+            rival,
+            known: rival,
+        }
+    }
+}
+
+impl fmt::Display for Counts {
+    fn fmt<W: fmt::Write>(&self, f: &mut fmt::Formatter<W>) -> fmt::Result {
+        let Counts {
+            asked,
+            keeper,
+            rival,
+            known,
+        } = *self;
+        write!(
+            f,
+            "asked {asked} keeper {keeper} rival {rival} known {known}"
+        )
     }
 }

@@ -4,52 +4,24 @@
 
 mod caches;
 mod counts;
-mod faults;
 mod rounds;
+mod setting;
 
-ghost use Rattle.std.specs.Prelude.{◌≤◌};
-
-use faults::Fault;
 use fifo::Fifo;
 use least_requested::LeastRequested;
 use policies::Lru;
 use rounds::challenge;
-use std::process::ExitCode;
-
-fn main(rt: HostRuntime) -> ExitCode {
-    match challenge_all(&rt) {
-        Ok(()) => ExitCode::SUCCESS,
-        Err(_) => ExitCode::FAILURE,
-    }
-}
+use setting::{PLACES, Setting};
 
 // Every number of places, with every smaller one beside it.
-fn challenge_all(rt: &HostRuntime) -> Result<(), Fault> {
-    for k in 1..7 {
-        for h in 1..k + 1 {
-            each(rt, k, h)?;
+fn main(rt: HostRuntime) -> anyhow::Result<()> {
+    for k in 1..=PLACES {
+        for h in 1..=k {
+            let setting = Setting { k, h };
+            challenge::<Lru>(&rt, "LRU", setting)?;
+            challenge::<Fifo>(&rt, "FIFO", setting)?;
+            challenge::<LeastRequested>(&rt, "least requested", setting)?;
         }
     }
     Ok(())
-}
-
-// The three policies with k places.
-fn each(rt: &HostRuntime, k: usize, h: usize) -> Result<(), Fault>
-    requires low { 1 ≤ h }
-    requires within { h ≤ k }
-    requires high { k ≤ 6 }
-{
-    let heap = rt.alloc();
-    let Some(mut lru) = Lru::new(heap, k)? else {
-        return Err(Fault::NoPolicy);
-    };
-    challenge(rt, "LRU", &mut lru, k, h)?;
-    let Some(mut fifo) = Fifo::new(heap, k)? else {
-        return Err(Fault::NoPolicy);
-    };
-    challenge(rt, "FIFO", &mut fifo, k, h)?;
-    let Some(mut counting) = LeastRequested::new(heap, k)? else {
-        return Err(Fault::NoPolicy);
-    };
-    challenge(rt, "least requested", &mut counting, k, h)
 }

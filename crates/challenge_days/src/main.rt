@@ -3,7 +3,7 @@
 
 use contest::{Fault, contest};
 use std::process::ExitCode;
-use trace::Settings;
+use trace::{PolicyKind, Settings};
 
 // k, h and how many rounds.
 const DAYS: [(u16, u16, u16); 8] = [
@@ -24,15 +24,21 @@ fn main(rt: HostRuntime) -> ExitCode {
     }
 }
 
+const KINDS: [PolicyKind; 3] = [
+    PolicyKind::Lru,
+    PolicyKind::Fifo,
+    PolicyKind::LeastRequested,
+];
+
 // Every setting, against each policy.
 fn challenge_all(rt: &HostRuntime) -> Result<(), Fault> {
     for (capacity, places, rounds) in DAYS {
-        for policy in 0..3u8 {
+        for kind in KINDS {
             let settings = Settings {
                 capacity,
                 places,
                 rounds,
-                policy,
+                policy: u8::from(kind),
             };
             head(rt, settings)?;
             contest(rt.alloc(), settings, &mut rt.stdout())?;
@@ -42,12 +48,12 @@ fn challenge_all(rt: &HostRuntime) -> Result<(), Fault> {
 }
 
 fn head(rt: &HostRuntime, settings: Settings) -> Result<(), Fault> {
-    let k = settings.capacity;
-    let h = settings.places;
-    let rounds = settings.rounds;
-    let policy = settings.policy;
-    match println!(rt; "{k} places, {h} beside it, {rounds} rounds, policy {policy}:") {
-        Ok(()) => Ok(()),
-        Err(e) => Err(Fault::Output(e)),
-    }
+    let Settings {
+        capacity: k,
+        places: h,
+        rounds,
+        policy,
+    } = settings;
+    println!(rt; "{k} places, {h} beside it, {rounds} rounds, policy {policy}:")?;
+    Ok(())
 }

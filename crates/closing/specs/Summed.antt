@@ -7,14 +7,12 @@ use Rattle.std.specs.Prelude.{◌≡◌, ℕ, ◌||◌, List, [], ◌∷◌, ◌
 use Rattle.std.specs.Option.{option_or}
 use Rattle.std.specs.Bool.{then_some}
 use Rattle.curve.specs.Refused.{refusal}
-use Rattle.lru_cache.specs.Refusals.{number_of, place_of}
+use Rattle.lru_cache.specs.Refusals.{refusal_bytes}
 use Rattle.lru_cache.specs.declared.refusals.Refusal.{Refusal}
 use Rattle.lru_cache.specs.declared.refusals.Refusal.TheVariants.{NoCache, LongTrace}
 use Rattle.summary.specs.Counted.{Says}
 use Rattle.summary.specs.Said.{paragraph}
 use Rattle.summary.specs.declared.summaries.Summary.{Summary}
-use Rattle.trace.specs.Lines.{line_bytes}
-use Rattle.trace.specs.declared.lines.Line.TheVariants.{Refused}
 
 abbrev pub cut_off : List ℕ → ℕ → Option Refusal
 cut_off requests total = then_some (nat_lt (length requests) total) (LongTrace total)
@@ -31,4 +29,4 @@ pub record Told (requests : List ℕ) (k : ℕ) (before after : List ℕ) : Type
 abbrev pub Summed : List ℕ → ℕ → ℕ → List ℕ → List ℕ → Type 0
 Summed requests total k before after =
     MatchOption (no_summary requests total k) (Told requests k before after)
-    (λ e. after ≡ before ++ (line_bytes (Refused (number_of e) (place_of e)) ++ (10 ∷ [])))
+    (λ e. after ≡ before ++ (refusal_bytes e ++ (10 ∷ [])))

@@ -4,6 +4,8 @@
 
 mod draws;
 mod sums;
+mod undrawn;
 
 pub use draws::draw;
 pub use sums::tell_summary;
+pub use undrawn::Undrawn;

@@ -8,7 +8,6 @@ use lru_cache::Refusal;
 use recency::MAX_CAPACITY;
 use std::fmt;
 use summary::Summary;
-use trace::Line;
 
 // What the day comes to with k places.
 fn summed(requests: &[u64], total: u64, k: usize) -> Result<Summary, Refusal>
@@ -32,8 +31,7 @@ pub fn tell_summary(requests: &[u64], total: u64, k: usize, text: &mut String) -
     match summed(requests, total, k) {
         Ok(summary) => summary::tell(summary, text),
         Err(refusal) => {
-            let line = Line::Refused(refusal.number(), refusal.place());
-            writeln!(text, "{line}")?;
+            writeln!(text, "{refusal}")?;
             Ok(())
         }
     }

@@ -3,9 +3,7 @@
 --     file_named given words   the file that is named; none where standard input is meant, which `-` is too
 use Rattle.std.specs.Prelude.{ℕ, ◌-◌, cond, ◌||◌, List, [], length, Some, None, codes, Option, ◌==◌, nat_lt, slice_index_or}
 use Rattle.std.specs.Str.{bytes_eq}
-use Rattle.options.specs.Arguments.{get}
 use Rattle.options.specs.declared.given.Given.{Given}
-use Rattle.options.specs.declared.names.Opt.TheVariants.{File}
 
 abbrev pub word_at : List (List ℕ) → ℕ → Option (List ℕ)
 word_at words i = cond (i == 0 || nat_lt (length words) i) None (Some (slice_index_or words (i - 1) []))
@@ -19,4 +17,4 @@ file_at words None = None
 file_at words (Some i) = no_dash (word_at words i)
 
 abbrev pub file_named : Given → List (List ℕ) → Option (List ℕ)
-file_named given words = file_at words (get given File)
+file_named given words = file_at words given.file

@@ -1,10 +1,13 @@
-// What the programs need of the system: their arguments, their input piece by piece, and a file that is written whole or not at all.
+// What the programs need of the system: their arguments, their input piece by piece, a file that is written whole or not at all, and how they
+// end.
 #![tactic(auto)]
 
+mod ends;
 mod files;
 mod inputs;
 mod words;
 
+pub use ends::status;
 pub use files::write_whole;
 pub use inputs::{fill, read_some};
-pub use words::{arguments, file_named, tell_wrong, word_at};
+pub use words::{Asked, arguments, ask, file_named, tell_wrong, word_at};

@@ -1,14 +1,22 @@
 // The settings of a challenge that are asked for.
-ghost use Rattle.std.specs.Prelude.{◌≡◌};
+ghost use Rattle.std.specs.Prelude.{◌≡◌, min};
+ghost use Rattle.std.specs.Option.{unwrap_or};
 ghost use Rattle.contest.specs.Asked.{settings_with};
 
-use trace::Settings;
+use trace::{PolicyKind, Settings};
 
-// The most that a number of the settings can be.
-const MOST: usize = 65535;
+// The places of a policy where nobody says how many.
+const PLACES: u16 = 40;
+
+// A number that is given, as large as it can be where it has no room in two bytes, and else the one that stands there.
+fn given_over(given: Option<usize>, own: u16) -> u16
+    ensures value { result ≡ min (unwrap_or given own) 65535 }
+{
+    given.map_or(own, |n| u16::try_from(n).unwrap_or(u16::MAX))
+}
 
 // The settings of a challenge where its numbers are given or not: what is not given is as in the settings of a file, or, where there is none,
-// 40 places, as many for the schedule, ten rounds and LRU.
+// 40 places, as many for the schedule, ten rounds and LRU. The policy is a number here, since one that no policy has may be asked for.
 pub fn settings_with(
     places: Option<usize>,
     rival: Option<usize>,
@@ -18,20 +26,16 @@ pub fn settings_with(
 ) -> Settings
     ensures value { result ≡ settings_with places rival rounds policy own }
 {
-    let capacity = places.unwrap_or(40);
-    let base = match own {
-        Some(settings) => settings,
-        None => Settings {
-            capacity: 40,
-            places: capacity.min(MOST) as u16,
-            rounds: 10,
-            policy: 0,
-        },
-    };
+    let base = own.unwrap_or(Settings {
+        capacity: PLACES,
+        places: given_over(places, PLACES),
+        rounds: 10,
+        policy: u8::from(PolicyKind::Lru),
+    });
     Settings {
-        capacity: places.unwrap_or(base.capacity as usize).min(MOST) as u16,
-        places: rival.unwrap_or(base.places as usize).min(MOST) as u16,
-        rounds: rounds.unwrap_or(base.rounds as usize).min(MOST) as u16,
-        policy: policy.unwrap_or(base.policy as usize).min(255) as u8,
+        capacity: given_over(places, base.capacity),
+        places: given_over(rival, base.places),
+        rounds: given_over(rounds, base.rounds),
+        policy: policy.map_or(base.policy, |n| u8::try_from(n).unwrap_or(u8::MAX)),
     }
 }

@@ -1,4 +1,4 @@
-// Why a challenge is not told to its end.
+// Why a challenge is not told to its end. The conversions are written out, since what each makes is promised.
 ghost use Rattle.std.specs.Prelude.{◌≡◌};
 ghost use Rattle.contest.specs.Contest.{fault_of};
 ghost use Rattle.contest.specs.declared.faults.Fault.TheVariants as fault;
@@ -7,8 +7,9 @@ use crate::turns::Stop;
 use lru_cache::Refusal;
 use std::alloc::AllocError;
 use std::{fmt, io};
+use trace::UnknownPolicy;
 
-#[derive(Clone, Copy)]
+#[derive(Clone, Copy, Debug)]
 pub enum Fault {
     // there is no policy of that number
     NoPolicy(u8),
@@ -18,6 +19,14 @@ pub enum Fault {
     Output(io::Error),
     // there is no memory
     Memory,
+}
+
+impl From<UnknownPolicy> for Fault {
+    ghost from_gives = { λ unknown r. r ≡ fault.NoPolicy unknown.0 };
+
+    fn from(unknown: UnknownPolicy) -> Fault {
+        Fault::NoPolicy(unknown.0)
+    }
 }
 
 impl From<Refusal> for Fault {

@@ -1,5 +1,5 @@
 // Requests of a policy, each with its line.
-ghost use Rattle.std.specs.Prelude.{◌≡◌, [], ◌∷◌, ◌++◌, IfOk, IfErr, Some, string_bytes, OnOk};
+ghost use Rattle.std.specs.Prelude.{◌≡◌, [], ◌∷◌, ◌++◌, IfOk, IfErr, Some, string_bytes};
 ghost use Rattle.adversary.specs.Runs.{Led};
 ghost use Rattle.adversary.specs.Steps.{refusal_in, if_long, Stepped};
 ghost use Rattle.trace.specs.Lines.{line_bytes};
@@ -10,12 +10,12 @@ ghost use Rattle.contest.specs.declared.turns.Stop.TheVariants as stop;
 use adversary::{Challenge, ask};
 use lru_cache::Refusal;
 use policies::Policy;
+use std::alloc::AllocError;
 use std::fmt;
 use telling::tell;
-use trace::Line;
 
-// Why there are no further requests.
-#[derive(Clone, Copy)]
+// Why there are no further requests. The conversions are written out, since what each makes is promised.
+#[derive(Clone, Copy, Debug, PartialEq, Eq)]
 pub enum Stop {
     // the adversary refused
     Refused(Refusal),
@@ -31,20 +31,20 @@ impl From<Refusal> for Stop {
     }
 }
 
+impl From<AllocError> for Stop {
+    ghost from_gives = { λ _ r. r ≡ stop.Memory };
+
+    fn from(_error: AllocError) -> Stop {
+        Stop::Memory
+    }
+}
+
 impl From<fmt::Error> for Stop {
     ghost from_gives = { λ _ r. r ≡ stop.Memory };
 
     fn from(_error: fmt::Error) -> Stop {
         Stop::Memory
     }
-}
-
-// Adds a line to the text.
-fn add(text: &mut String, line: Line) -> fmt::Result
-    ensures bytes { OnOk result (string_bytes text.new ≡ string_bytes text.old ++ (line_bytes line ++ (10 ∷ []))) }
-{
-    writeln!(text, "{line}")?;
-    Ok(())
 }
 
 // One request, whose line is added to the text.
@@ -61,8 +61,11 @@ fn turn<P: Policy>(
     ensures same { IfErr result (λ s. Refused s (λ _. (row.new ≡ row.old) × (keeper.new ≡ keeper.old) × (text.new ≡ text.old))) }
 {
     let next = ask(keeper, challenge, row)?;
-    let line = tell(next.page(), next.before(row), keeper.shown());
-    add(text, line)?;
+    writeln!(
+        text,
+        "{}",
+        tell(next.page(), next.before(row), keeper.shown())
+    )?;
     Ok(next)
 }
 

@@ -3,7 +3,7 @@
 --     text_back          the lines of pages name them, also behind a header's line
 --     there_and_back     whole requests in bytes, as text and in bytes again
 --     text_there         what a text names, in bytes
-use Rattle.std.proofs.Common.{ap, ◌∙◌}
+use Rattle.std.proofs.Common.{ap, ◌∙◌, arith}
 use Rattle.trace.specs.Requests.{requests_in}
 use Rattle.text.specs.Texts.{begin}
 use Rattle.text.proofs.Pieces.{pages_append, after_append}
@@ -22,4 +22,4 @@ pub there_and_back : ThereAndBack
 there_and_back bytes small none = ap bytes_of (lines_back (requests_in bytes) 1 (small_requests bytes small)) ∙ bytes_back bytes small none
 
 pub text_there : TextThere
-text_there text = pages_back _ (small_pages begin _)
+text_there text = pages_back _ (small_pages begin _ (omega arith, tt))

@@ -2,98 +2,118 @@
 --     small_pages     what a text names are pages
 --     lines_back      the lines of pages name them
 --     noted_back      also behind a header's line
-use Rattle.std.proofs.Common.{◌≡◌, ℕ, ◌+◌, ◌-◌, ◌*◌, ◌/◌, ◌%◌, ◌^◌, ◌<◌, ◌≤◌, min, true, false, eqb, ltb, leb, List, [], ◌∷◌, ◌++◌, length, take, Some, None, codes, decimal, Option, refl, ap, ◌∙◌, subst, append_assoc, arith}
+use Rattle.std.proofs.Common.{◌≡◌, ℕ, ◌+◌, ◌-◌, ◌*◌, ◌/◌, ◌%◌, ◌^◌, ◌<◌, ◌≤◌, min, Bool, true, false, ◌&&◌, ◌||◌, eqb, ltb, leb, List, [], ◌∷◌, ◌++◌, length, take, Some, None, codes, decimal, Option, refl, ap, ◌∙◌, subst, append_assoc, arith}
 use Rattle.std.proofs.lemmas.Fmt.{decimal_by_steps}
 use Rattle.std.proofs.lemmas.List.{length-take, length_push}
-use Rattle.std.proofs.lemmas.Bool.{cond_both, ltb-true, ne_eqb, lt-ltb, le-leb, lt-leb}
-use Rattle.std.specs.Option.{option_to_list}
+use Rattle.std.proofs.lemmas.Bool.{cond_both, ltb-true, ne_eqb, lt-ltb, le-leb}
+use Rattle.std.specs.Option.{is_none, option_and_then, option_to_list}
 use Rattle.trace.specs.declared.headers.Header.{Header}
-use Rattle.text.specs.Texts.{State, with_digit, with_byte, page_of, page_at, step, pages_from, after, pages_in}
+use Rattle.text.specs.Texts.{State, with_digit, with_byte, page_of, end_word, blank, next_line, page_in, page_at, step_in, step, pages_from, after, pages_in}
+use Rattle.text.specs.declared.readers.Mode.{Mode}
+use Rattle.text.specs.declared.readers.Mode.TheVariants.{Words, Comment, Bad}
 use Rattle.text.proofs.Pieces.{pages_append, after_append}
 use Rattle.convert.specs.Days.{text_of, header_line}
 use Rattle.convert.specs.Claims.{Below}
 
+-- what is read so far of a word is a page
 abbrev Small : Option ℕ → Type 0
 Small o = Below 4294967296 (option_to_list o)
 
-small_of : (s : State) → Small (page_of s)
-small_of s =
-    cond_both (eqb (length s.told) 0) None _ Small (λ e. tt)
-    (λ e. cond_both (ltb s.value 4294967296) (Some s.value) None Small (λ f. (ltb-true _ _ f, tt)) (λ f. tt))
+last_holds : (a b c : Bool) → (a && (b && c)) ≡ true → c ≡ true
+last_holds true true c e = e
+last_holds true false c e = cc
+last_holds false b c e = cc
 
-small_at : (s : State) (b : ℕ) → Small (page_at s b)
-small_at s b =
-    cond_both s.bad None _ Small (λ e. tt)
-    (λ e. cond_both (eqb b 10) (page_of s) _ Small (λ f. small_of s)
-    (λ f. cond_both s.comment None _ Small (λ g. tt)
-    (λ g. cond_both (eqb b 35) (page_of s) _ Small (λ h. small_of s)
-    (λ h. cond_both _ (page_of s) None Small (λ i. small_of s) (λ i. tt)))))
+small_digit : (n b : ℕ) → Small (with_digit n b)
+small_digit n b =
+    cond_both (leb 48 b && (leb b 57 && ltb (10 * n + (b - 48)) 4294967296)) (Some (10 * n + (b - 48))) None Small
+    (λ e. (ltb-true _ _ (last_holds (leb 48 b) (leb b 57) _ e), tt)) (λ e. tt)
+
+small_then : (o : Option ℕ) (b : ℕ) → Small (option_and_then (λ n. with_digit n b) o)
+small_then None b = tt
+small_then (Some n) b = small_digit n b
+
+abbrev SmallIn : State → Type 0
+SmallIn s = Small s.value
+
+module _ (s : State) (small : SmallIn s) where
+  small_of : Small (page_of s)
+  small_of = cond_both (eqb (length s.told) 0) None s.value Small (λ e. tt) (λ e. small)
+
+  small_end : (l : ℕ) (m : Mode) → SmallIn (end_word s l m)
+  small_end l m = cond_both (ltb 0 (length s.told) && is_none s.value) _ _ SmallIn (λ e. small) (λ e. (omega arith, tt))
+
+  small_in : (m : Mode) (b : ℕ) → Small (page_in m s b)
+  small_in Words b = cond_both (eqb b 10 || (eqb b 35 || blank b)) (page_of s) None Small (λ e. small_of) (λ e. tt)
+  small_in Comment b = cond_both (eqb b 10) (page_of s) None Small (λ e. small_of) (λ e. tt)
+  small_in Bad b = tt
+
+  small_step : (m : Mode) (b : ℕ) → SmallIn (step_in m s b)
+  small_step Words b =
+      cond_both (eqb b 10) (end_word s (next_line s) Words) _ SmallIn (λ e. small_end _ _)
+      (λ e. cond_both (eqb b 35) (end_word s s.line Comment) _ SmallIn (λ f. small_end _ _)
+      (λ f. cond_both (blank b) (end_word s s.line Words) (with_byte s b) SmallIn (λ g. small_end _ _) (λ g. small_then s.value b)))
+  small_step Comment b = cond_both (eqb b 10) (end_word s (next_line s) Words) s SmallIn (λ e. small_end _ _) (λ e. small)
+  small_step Bad b = small
 
 below_append : (n : ℕ) (xs ys : List ℕ) → Below n xs → Below n ys → Below n (xs ++ ys)
 below_append n [] ys h g = g
 below_append n (x ∷ xs) ys h g = (h.0, below_append n xs ys h.1 g)
 
-pub small_pages : (s : State) (text : List ℕ) → Below 4294967296 (pages_from s text)
+pub small_pages : (s : State) (text : List ℕ) → SmallIn s → Below 4294967296 (pages_from s text)
 unfolding pages_from
-small_pages s [] = tt
-small_pages s (b ∷ text) = below_append 4294967296 (option_to_list (page_at s b)) (pages_from (step s b) text) (small_at s b) (small_pages (step s b) text)
+small_pages s [] small = tt
+small_pages s (b ∷ text) small =
+    below_append 4294967296 (option_to_list (page_at s b)) (pages_from (step s b) text) (small_in s small s.mode b)
+    (small_pages (step s b) text (small_step s small s.mode b))
 
 -- between words
 abbrev clean : ℕ → State
-clean l = record { line = l; comment = false; told = []; value = 0; bad = false }
+clean l = record { line = l; mode = Words; told = []; value = Some 0 }
 
 -- inside a word that is the number v so far
 record Word (l v : ℕ) (s : State) : Type 0 where
   line_is : s.line ≡ l
-  open_is : s.comment ≡ false
-  good : s.bad ≡ false
-  value_is : s.value ≡ v
+  mode_is : s.mode ≡ Words
+  value_is : s.value ≡ Some v
 
 module _ (l v : ℕ) (s : State) (word : Word l v s) where
   digit_step : (b : ℕ) → 48 ≤ b → b ≤ 57 → (step s b ≡ with_byte s b) × (page_at s b ≡ None)
   digit_step b low high =
-      let good = word.good in
-      let open_is = word.open_is in
+      let mode = word.mode_is in
       let e10 : eqb b 10 ≡ false = ne_eqb b 10 (λ (e : b ≡ 10). omega arith) in
       let e35 : eqb b 35 ≡ false = ne_eqb b 35 (λ (e : b ≡ 35). omega arith) in
       let e32 : eqb b 32 ≡ false = ne_eqb b 32 (λ (e : b ≡ 32). omega arith) in
       let e9 : eqb b 9 ≡ false = ne_eqb b 9 (λ (e : b ≡ 9). omega arith) in
       let e13 : eqb b 13 ≡ false = ne_eqb b 13 (λ (e : b ≡ 13). omega arith) in
-      (simp (good, open_is, e10, e35, e32, e9, e13), simp (good, open_is, e10, e35, e32, e9, e13))
+      (simp (mode, e10, e35, e32, e9, e13), simp (mode, e10, e35, e32, e9, e13))
 
-  digit_value : (b : ℕ) → 48 ≤ b → b ≤ 57 → 10 * v + (b - 48) < 4294967296 → with_digit s.value b ≡ 10 * v + (b - 48)
+  digit_value : (b : ℕ) → 48 ≤ b → b ≤ 57 → 10 * v + (b - 48) < 4294967296 → with_digit v b ≡ Some (10 * v + (b - 48))
   digit_value b low high small =
       let above : leb 48 b ≡ true = le-leb 48 b low in
       let below : leb b 57 ≡ true = le-leb b 57 high in
-      let is = word.value_is in
-      let least : min (10 * v + (b - 48)) 4294967296 ≡ 10 * v + (b - 48) = omega arith in
-      simp (above, below, is, least)
+      let fits : ltb (10 * v + (b - 48)) 4294967296 ≡ true = lt-ltb _ _ small in
+      simp (above, below, fits)
 
   digit_more : (b : ℕ) → 48 ≤ b → b ≤ 57 → 10 * v + (b - 48) < 4294967296 → Word l (10 * v + (b - 48)) (step s b) × (0 < length (step s b).told)
   digit_more b low high small =
       let went = (digit_step b low high).0 in
+      let is = word.value_is in
       let value = digit_value b low high small in
       let long : length (take 41 (s.told ++ (b ∷ []))) ≡ min 41 (length s.told + 1) = length-take 41 (s.told ++ (b ∷ [])) ∙ ap (λ (n : ℕ). min 41 n) (length_push s.told b) in
       let some : 0 < length (with_byte s b).told = omega arith in (
-        record {
-          line_is = rw went word.line_is;
-          open_is = rw went word.open_is;
-          good = rw went word.good;
-          value_is = rw went value;
-        },
+        record { line_is = rw went word.line_is; mode_is = rw went word.mode_is; value_is = rw (went, is) value },
         rw went some,
       )
 
-  line_ends : v < 4294967296 → 0 < length s.told → (page_at s 10 ≡ Some v) × (step s 10 ≡ clean (min (l + 1) (2 ^ 64 - 1)))
-  line_ends small some =
-      let good = word.good in
+  line_ends : 0 < length s.told → (page_at s 10 ≡ Some v) × (step s 10 ≡ clean (min (l + 1) (2 ^ 64 - 1)))
+  line_ends some =
+      let mode = word.mode_is in
       let is = word.value_is in
       let line = word.line_is in
       let there : eqb (length s.told) 0 ≡ false = ne_eqb _ _ (λ (e : length s.told ≡ 0). omega arith) in
-      let page : ltb v 4294967296 ≡ true = lt-ltb _ _ small in
       let there' : ltb 0 (length s.told) ≡ true = lt-ltb _ _ some in
-      let page' : leb 4294967296 v ≡ false = lt-leb _ _ small in
-      (simp (good, is, there, page), simp (good, is, line, there', page'))
+      (simp (mode, is, there), simp (mode, is, line, there'))
 
 abbrev Reads : ℕ → List ℕ → Type 0
 Reads n ds =
@@ -102,7 +122,7 @@ Reads n ds =
 reads_one : (n : ℕ) → n < 10 → Reads n ((48 + n) ∷ [])
 unfolding pages_from after
 reads_one n few small l =
-    let start : Word l 0 (clean l) = record { line_is = refl; open_is = refl; good = refl; value_is = refl } in
+    let start : Word l 0 (clean l) = record { line_is = refl; mode_is = refl; value_is = refl } in
     let low : 48 ≤ 48 + n = omega arith in
     let high : 48 + n ≤ 57 = omega arith in
     let is : 10 * 0 + (48 + n - 48) ≡ n = omega arith in
@@ -138,7 +158,7 @@ lines_back (page ∷ pages) l small =
     let reads = decimal_by_steps Reads reads_one reads_more page fits small.0 l in
     let s = after (clean l) (decimal page) in
     let rest = text_of pages ++ (10 ∷ []) in
-    let ends = line_ends l page s reads.1 small.0 reads.2 in
+    let ends = line_ends l page s reads.1 reads.2 in
     let next = min (l + 1) (2 ^ 64 - 1) in
     let found : pages_from s (10 ∷ rest) ≡ page ∷ pages_from (clean next) rest =
     ap (λ (o : Option ℕ). option_to_list o ++ pages_from (step s 10) rest) ends.0 ∙ ap (λ (t : State). page ∷ pages_from t rest) ends.1
@@ -151,7 +171,7 @@ lines_back (page ∷ pages) l small =
 
 -- inside a comment
 abbrev noted : ℕ → State
-noted l = record { line = l; comment = true; told = []; value = 0; bad = false }
+noted l = record { line = l; mode = Comment; told = []; value = Some 0 }
 
 abbrev Unbroken : List ℕ → Type 0
 Unbroken [] = Unit {0}

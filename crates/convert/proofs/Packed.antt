@@ -1,8 +1,7 @@
 -- The bytes of pages in a row. Assumes nothing.
 --     length_bytes_of     four for each page
---     four_written        four bytes written one after the other
 --     packed_more         the bytes of one page more
-use Rattle.std.proofs.Common.{◌≡◌, ℕ, zero, suc, ◌+◌, ◌*◌, ◌<◌, ◌≤◌, List, [], ◌∷◌, ◌++◌, length, get_or, take, drop, set, sym, refl, ap, ◌∙◌, append_assoc, arith}
+use Rattle.std.proofs.Common.{◌≡◌, ℕ, zero, suc, ◌+◌, ◌*◌, ◌<◌, ◌≤◌, List, [], ◌∷◌, ◌++◌, length, get_or, take, drop, sym, refl, ap, ◌∙◌, append_assoc, arith}
 use Rattle.std.proofs.lemmas.List.{take_at, drop_at, drop-drop, length-take-le}
 use Rattle.convert.specs.Days.{page_bytes, bytes_of}
 
@@ -10,21 +9,6 @@ pub length_bytes_of : (pages : List ℕ) → length (bytes_of pages) ≡ 4 * len
 unfolding bytes_of
 length_bytes_of [] = refl
 length_bytes_of (page ∷ pages) = omega (arith, length_bytes_of pages)
-
-pub four_written :
-    (out : List ℕ) (at a b c d : ℕ) → at + 4 ≤ length out →
-    set (set (set (set out at a) (at + 1) b) (at + 2) c) (at + 3) d ≡ take at out ++ (a ∷ b ∷ c ∷ d ∷ drop (at + 4) out)
-four_written [] at a b c d room = let z : ⊥ = omega arith in absurd z
-four_written (w ∷ []) zero a b c d room = let z : ⊥ = omega arith in absurd z
-four_written (w ∷ x ∷ []) zero a b c d room = let z : ⊥ = omega arith in absurd z
-four_written (w ∷ x ∷ y ∷ []) zero a b c d room = let z : ⊥ = omega arith in absurd z
-four_written (w ∷ x ∷ y ∷ z ∷ rest) zero a b c d room = refl
-four_written (w ∷ out) (suc at) a b c d room =
-    let e1 : suc at + 1 ≡ suc (at + 1) = omega arith in
-    let e2 : suc at + 2 ≡ suc (at + 2) = omega arith in
-    let e3 : suc at + 3 ≡ suc (at + 3) = omega arith in
-    let e4 : suc at + 4 ≡ suc (at + 4) = omega arith in
-    rw (e1, e2, e3, e4) (ap (λ (l : List ℕ). w ∷ l) (four_written out at a b c d (omega arith)))
 
 -- the front of the bytes with one page more
 front_more : (pages : List ℕ) (i : ℕ) → i < length pages → take (4 * (i + 1)) (bytes_of pages) ≡ take (4 * i) (bytes_of pages) ++ page_bytes (get_or pages i 0)

@@ -5,17 +5,14 @@ ghost use Rattle.convert.specs.Claims.{HeaderBack, TextThere};
 
 use trace::Header;
 
-// The four bytes of a header, of each number the two low ones.
+// The four bytes of a header, of each number the two low ones. A function beside the type: `From<Header>` for an array belongs to crate `trace`.
 pub fn pack_header(header: Header) -> [u8; 4]
     ensures value { result ≡ header_bytes header }
     ensures back { HeaderBack }
 {
-    [
-        (header.capacity % 256) as u8,
-        (header.capacity / 256 % 256) as u8,
-        (header.reported % 256) as u8,
-        (header.reported / 256 % 256) as u8,
-    ]
+    let [a, b, ..] = header.capacity.to_le_bytes();
+    let [c, d, ..] = header.reported.to_le_bytes();
+    [a, b, c, d]
 }
 
 // Writes a page to the four places from `at` on.
@@ -23,10 +20,7 @@ fn put_page(out: &mut [u8], at: usize, page: u64)
     requires room { at + 4 ≤ length out.old }
     ensures after { out.new ≡ take at out.old ++ (page_bytes page ++ drop (at + 4) out.old) }
 {
-    out[at] = (page % 256) as u8;
-    out[at + 1] = (page / 256 % 256) as u8;
-    out[at + 2] = (page / 65536 % 256) as u8;
-    out[at + 3] = (page / 16777216 % 256) as u8;
+    out[at..at + 4].copy_from_slice(&page.to_le_bytes()[..4]);
 }
 
 // Writes the bytes of as many pages as have room to the front, and says how many bytes.
@@ -35,9 +29,10 @@ pub fn pack(pages: &[u64], out: &mut [u8]) -> usize
     ensures after { out.new ≡ take result (bytes_of pages.now) ++ drop result out.old }
     ensures back { TextThere }
 {
-    let count = pages.len().min(out.len() / 4);
-    for i in 0..count {
-        put_page(out, 4 * i, pages[i]);
+    let packed = &pages[..pages.len().min(out.len() / 4)];
+    // No `chunks_exact_mut`: after it a proof knows how long `out` is, and not what it holds.
+    for (i, &page) in packed.iter().enumerate() {
+        put_page(out, 4 * i, page);
     }
-    4 * count
+    4 * packed.len()
 }

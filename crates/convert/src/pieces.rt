@@ -10,7 +10,7 @@ use crate::prints::unpack;
 use std::fmt;
 use text::Reader;
 
-// How many pages are handled at once at most.
+// How many pages are handled at once at most, in fixed memory.
 const PAGES: usize = 16384;
 
 // Reads as much of a text as there is room for, at most 16,384 bytes, writes the pages that it names in bytes to the front, and says how
@@ -21,18 +21,17 @@ pub fn pack_text(reader: &mut Reader, text: &[u8], out: &mut [u8]) -> usize
     ensures written { out.new ≡ bytes_of (pages_from (state_of reader.old) (take (min (length out.old / 4) 16384) text.now)) ++ drop result out.old }
     ensures after { state_of reader.new ≡ after (state_of reader.old) (take (min (length out.old / 4) 16384) text.now) }
 {
-    let mut pages = [0u64; PAGES];
-    let room = (out.len() / 4).min(PAGES);
-    let some = text.len().min(room);
-    let count = reader.read(&text[0..some], &mut pages);
-    pack(&pages[0..count], out)
+    let mut pages = [0; PAGES];
+    let room = &mut pages[..PAGES.min(out.len() / 4)];
+    let count = reader.read(text, room);
+    pack(&room[..count], out)
 }
 
 // Adds the lines of the pages that bytes request to the text, of the first 16,384.
 pub fn unpack_bytes(bytes: &[u8], text: &mut String) -> fmt::Result
     ensures lines { is_ok result ≡ true → string_bytes text.new ≡ string_bytes text.old ++ text_of (take 16384 (requests_in bytes.now)) }
 {
-    let mut pages = [0u64; PAGES];
+    let mut pages = [0; PAGES];
     let count = trace::decode(bytes, &mut pages);
-    unpack(&pages[0..count], text)
+    unpack(&pages[..count], text)
 }

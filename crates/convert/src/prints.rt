@@ -11,8 +11,7 @@ pub fn unpack(pages: &[u64], text: &mut String) -> fmt::Result
     ensures lines { is_ok result ≡ true → string_bytes text.new ≡ string_bytes text.old ++ text_of pages.now }
     ensures back { ThereAndBack }
 {
-    for i in 0..pages.len() {
-        let page = pages[i];
+    for page in pages {
         writeln!(text, "{page}")?;
     }
     Ok(())
@@ -22,8 +21,10 @@ pub fn unpack(pages: &[u64], text: &mut String) -> fmt::Result
 pub fn unpack_header(header: Header, text: &mut String) -> fmt::Result
     ensures lines { is_ok result ≡ true → string_bytes text.new ≡ string_bytes text.old ++ header_line header }
 {
-    let places = header.capacity;
-    let reported = header.reported;
-    writeln!(text, "# places {places} report {reported}")?;
+    writeln!(
+        text,
+        "# places {} report {}",
+        header.capacity, header.reported
+    )?;
     Ok(())
 }

@@ -1,16 +1,13 @@
 -- One pass over the trace: what has been counted after the first i requests, and what one request adds.
-use Rattle.std.proofs.Common.{◌≡◌, ℕ, ◌+◌, ◌-◌, ◌<◌, ◌≤◌, false, List, [], ◌++◌, length, get_or, take, drop, set, replicate, sum, refl, ◌∙◌, arith}
-use Rattle.std.proofs.lemmas.List.{length-set, get_or-set_same, get_or_append_left, take_all, drop_at}
+use Rattle.std.proofs.Common.{◌≡◌, ℕ, ◌+◌, ◌<◌, ◌≤◌, false, List, length, get_or, take, drop, set, sum, refl, ◌∙◌, arith}
+use Rattle.std.proofs.lemmas.List.{length-set, get_or-set_same, take_all}
 use Rattle.std.proofs.lemmas.Bool.Decides.{nat_tests}
 use Rattle.paging.specs.Lists.{has}
 use Rattle.paging.specs.Lru.{lru, lru_fetches}
 use Rattle.paging.proofs.Distance.{stack_steps, fetches_le}
-use Rattle.paging.proofs.Tallies.{Tallied, Steps, tallied_none, tallied_all, tallied_found, tallied_absent, counter_le}
-use Rattle.curve.specs.Counts.{Tally, Fetches, Counted}
+use Rattle.paging.proofs.Tallies.{Tallied, Steps, tallied_all, tallied_found, tallied_absent, counter_le}
+use Rattle.curve.specs.Counts.{Tally}
 use Rattle.curve.specs.Stacked.{Found}
-
-pub pass_none : (hits trace stack : List ℕ) → hits ≡ replicate (length hits) 0 → stack ≡ [] → Tallied lru_fetches hits 0 trace stack
-pass_none hits trace stack none empty = rw (none, empty) (tallied_none lru_fetches (length hits) trace)
 
 pub pass_all : (hits trace stack : List ℕ) (i : ℕ) → Tallied lru_fetches hits i trace stack → i ≡ length trace → Tally trace hits
 unfolding lru_fetches
@@ -45,12 +42,3 @@ pub tally_enough : (trace hits : List ℕ) → 1 ≤ length hits → Tally trace
 tally_enough trace hits low tally =
     let all : sum (take (length hits) hits) ≡ sum hits = rw (take_all (length hits) hits (omega arith)) refl in
     omega (arith, tally (length hits) low (omega arith))
-
--- the first half of a row, lent to be counted into
-pub counted_half :
-    (trace : List ℕ) (m k : ℕ) (row half : List ℕ) → k ≡ m → length half ≡ m → Fetches trace half → Counted trace m row (half ++ drop k row)
-counted_half trace m k row half same len fetches =
-    record {
-      fetches = λ c low high. get_or_append_left half (drop k row) 0 (c - 1) (omega arith) ∙ fetches c low (omega arith);
-      beyond = rw same (drop_at half (drop m row) m len);
-    }

@@ -1,9 +1,9 @@
 -- The first reason to make no report, where those before it do not apply.
 use Rattle.std.proofs.Common.{◌≡◌, ℕ, ◌*◌, ◌<◌, ◌≤◌, true, false, ◌||◌, eqb, ltb, ◌⊎◌, List, length, Some, None, refl, arith}
-use Rattle.std.proofs.lemmas.Bool.{lt-ltb, le-ltb}
+use Rattle.std.proofs.lemmas.Bool.{le-ltb}
 use Rattle.std.proofs.lemmas.Bool.Decides.{nat_tests}
 use Rattle.lru_cache.specs.declared.refusals.Refusal.{Refusal}
-use Rattle.lru_cache.specs.declared.refusals.Refusal.TheVariants.{LongTrace, BadCapacities, ShortReport}
+use Rattle.lru_cache.specs.declared.refusals.Refusal.TheVariants.{BadCapacities}
 use Rattle.lru_cache.specs.Rows.{first_wide}
 use Rattle.curve.specs.Refused.{refusal}
 
@@ -13,10 +13,6 @@ module _ (trace : List ℕ) (m len : ℕ) where
   refused_wide e wide = rw wide refl
 
   module _ (narrow : first_wide trace ≡ None) where
-    pub refused_long : 4096 < length trace → refusal trace m len ≡ Some (LongTrace (length trace))
-    unfolding refusal
-    refused_long long = rw (narrow, lt-ltb 4096 (length trace) long) refl
-
     module _ (short : length trace ≤ 4096) where
       pub refused_capacities : (m ≡ 0) ⊎ (4096 < m) → refusal trace m len ≡ Some (BadCapacities m)
       unfolding refusal
@@ -27,10 +23,6 @@ module _ (trace : List ℕ) (m len : ℕ) where
       module _ (low : 1 ≤ m) (high : m ≤ 4096) where
         ranged : (eqb m 0 || ltb 4096 m) ≡ false
         ranged = grind (arith, nat_tests)
-
-        pub refused_short : len < 2 * m → refusal trace m len ≡ Some (ShortReport len)
-        unfolding refusal
-        refused_short less = rw (narrow, le-ltb 4096 (length trace) short, ranged, lt-ltb len (2 * m) less) refl
 
         pub refused_none : 2 * m ≤ len → refusal trace m len ≡ None
         unfolding refusal

@@ -21,19 +21,16 @@ pub fn report_len(m: usize) -> Option<usize>
 }
 
 // The first reason not to make a report of a trace for m capacities in a row of `len` numbers.
+#[tactic(auto, unfolding(crate::specs::Refused::refusal))]
 pub fn check(trace: &[u64], m: usize, len: usize) -> Result<(), Refusal>
     ensures refused { result_err result ≡ refusal trace.now m len }
     ensures checked { OnOk result (Checked trace.now m len) }
 {
-    if let Some(refusal) = first_wide(trace) {
-        return Err(refusal);
-    }
+    first_wide(trace)?;
     if trace.len() > MAX_REQUESTS {
         return Err(Refusal::LongTrace(trace.len() as u64));
     }
-    let Some(numbers) = report_len(m) else {
-        return Err(Refusal::BadCapacities(m as u64));
-    };
+    let numbers = report_len(m).ok_or(Refusal::BadCapacities(m as u64))?;
     if len < numbers {
         return Err(Refusal::ShortReport(len as u64));
     }

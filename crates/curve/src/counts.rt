@@ -5,6 +5,7 @@ ghost use Rattle.curve.specs.Counts.{Tally, Left, Fetches};
 use crate::stack::Stack;
 
 // Writes LRU's fetches from an empty cache with 1, 2 .. places, as many as the row has numbers.
+#[tactic(auto, using(crate::proofs::Passes::tally_enough))]
 pub fn count(trace: &[u64], row: &mut [u64])
     requires low { 1 ≤ length row.old }
     requires high { length row.old ≤ 4096 }
@@ -22,13 +23,11 @@ fn tally(trace: &[u64], hits: &mut [u64])
     requires none { hits.old ≡ replicate (length hits.old) 0 }
     ensures after { Tally trace.now hits.new }
 {
-    let mut stack = Stack::new();
-    let m = hits.len();
-    for page in trace {
-        let Some(at) = stack.request(m, *page) else {
-            continue;
-        };
-        hits[at] += 1;
+    let mut stack = Stack::new(hits.len());
+    for &page in trace {
+        if let Some(at) = stack.request(page) {
+            hits[at] += 1;
+        }
     }
 }
 
@@ -38,8 +37,8 @@ pub fn settle(hits: &mut [u64], requests: u64)
     ensures after { Left hits.old requests hits.new }
 {
     let mut left = requests;
-    for i in 0..hits.len() {
-        left -= hits[i];
-        hits[i] = left;
+    for hit in hits.iter_mut() {
+        left -= *hit;
+        *hit = left;
     }
 }

@@ -13,10 +13,7 @@ pub fn curve(trace: &[u64], m: usize, row: &mut [u64]) -> Result<(), Refusal>
     ensures refused { result_err result ≡ refusal trace.now m (length row.old) }
     ensures says { MatchResult result (λ _. Counted trace.now m row.old row.new) (λ _. row.new ≡ row.old) }
 {
-    let checked = check(trace, m, row.len());
-    let Ok(()) = checked else {
-        return checked;
-    };
-    count(trace, &mut row[0..m]);
+    check(trace, m, row.len())?;
+    count(trace, &mut row[..m]);
     Ok(())
 }

@@ -14,4 +14,3 @@ mod stack;
 pub use checks::{MAX_CAPACITIES, MAX_REQUESTS, check, report_len};
 pub use counts::{count, settle};
 pub use entry::curve;
-pub use stack::lift;

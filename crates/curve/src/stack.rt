@@ -1,72 +1,54 @@
 // The pages requested last, each once, the latest first. A page's place there is how many different pages were requested since.
-ghost use Rattle.std.specs.Prelude.{◌≡◌, ◌+◌, ◌<◌, ◌≤◌, false, [], ◌∷◌, ◌++◌, length, take, drop, MatchOption};
-ghost use Rattle.paging.specs.Lists.{has, place};
+ghost use Rattle.std.specs.Prelude.{◌≡◌, ◌≤◌, false, [], MatchOption};
+ghost use Rattle.paging.specs.Lists.{has};
 ghost use Rattle.paging.specs.Lru.{lru};
-ghost use Rattle.curve.specs.Stacked.{stacked, Found};
 
 use crate::checks::MAX_CAPACITIES;
+use rows::{find, put_first};
 
-// As many pages as the largest capacity of a report has use for.
+// There is no heap here: the row has places for as many pages as the largest capacity of a report has use for.
 #[derive(Drop)]
 pub(crate) struct Stack {
+    // how many pages are kept
+    places: usize,
     pages: [u64; MAX_CAPACITIES],
+    // how many there are
     len: usize,
+    ghost some: { 1 ≤ places },
+    ghost most: { places ≤ 4096 },
+    ghost few: { len ≤ places },
 }
 
 impl Stack {
-    // No page.
-    pub(crate) fn new() -> Stack
+    ghost use Rattle.curve.specs.Stacked.{stacked, Found};
+
+    // No page, and room for so many.
+    pub(crate) fn new(places: usize) -> Stack
+        requires low { 1 ≤ places }
+        requires high { places ≤ 4096 }
         ensures none { stacked result ≡ [] }
-        ensures len { result.len ≡ 0 }
+        ensures places { result.places ≡ places }
     {
         Stack {
+            places,
             pages: [0; MAX_CAPACITIES],
             len: 0,
         }
     }
 
-    // How many different pages were requested since the last request for this one: how many stand before it. Where it does
-    // not stand there, how many pages do.
-    fn since(&self, page: u64) -> usize
-        requires few { self.now.len ≤ 4096 }
-        ensures value { result ≡ place page (stacked self.now) }
+    // Puts a page in front, and answers where it stood before.
+    #[tactic(auto, using(crate::proofs::Stacks::lifted_found, crate::proofs::Stacks::lifted_absent))]
+    pub(crate) fn request(&mut self, page: u64) -> Option<usize>
+        ensures finds { MatchOption result (has (stacked self.old) page ≡ false) (Found self.old.places page (stacked self.old)) }
+        ensures after { stacked self.new ≡ lru self.old.places (stacked self.old) page }
+        ensures places { self.new.places ≡ self.old.places }
     {
-        for i in 0..self.len {
-            if self.pages[i] == page {
-                return i;
-            }
-        }
-        self.len
-    }
-
-    // Puts a page in front, and answers where it stood before. Of the pages no more than m are kept.
-    pub(crate) fn request(&mut self, m: usize, page: u64) -> Option<usize>
-        requires low { 1 ≤ m }
-        requires high { m ≤ 4096 }
-        requires few { self.old.len ≤ m }
-        ensures finds { MatchOption result (has (stacked self.old) page ≡ false) (Found m page (stacked self.old)) }
-        ensures after { stacked self.new ≡ lru m (stacked self.old) page }
-        ensures few { self.new.len ≤ m }
-    {
-        let at = self.since(page);
-        if at < self.len {
-            lift(&mut self.pages, at, page);
+        if let Some(at) = find(&self.pages[..self.len], page) {
+            put_first(&mut self.pages, at, page);
             return Some(at);
         }
-        let len = m.min(self.len + 1);
-        lift(&mut self.pages, len - 1, page);
-        self.len = len;
+        self.len = self.places.min(self.len + 1);
+        put_first(&mut self.pages, self.len - 1, page);
         None
     }
-}
-
-// Moves the first pages one place back, over the one that stands after them, and puts a page in front.
-pub fn lift(pages: &mut [u64], end: usize, page: u64)
-    requires within { end < length pages.old }
-    ensures after { pages.new ≡ page ∷ (take end pages.old ++ drop (end + 1) pages.old) }
-{
-    for i in (1..end + 1).rev() {
-        pages[i] = pages[i - 1];
-    }
-    pages[0] = page;
 }

@@ -4,7 +4,8 @@ use Rattle.std.specs.Fmt.{digits}
 use Rattle.paging.specs.Belady.{furthest, belady, belady_fetches}
 use Rattle.paging.specs.Lists.{has, without, last_of, place}
 use Rattle.paging.specs.Lru.{lru, lru_fetches}
-use Rattle.lru_cache.specs.Replies.{reply, replies}
+use Rattle.recency.specs.Outcome.{outcome}
+use Rattle.lru_cache.specs.Outcomes.{outcomes}
 use Rattle.day.specs.Reports.{counts_lines, report_of}
 use Rattle.day.specs.Said.{answers, lines_of, lines_for}
 
@@ -14,7 +15,7 @@ text [] = []
 text (line ∷ lines) = line ++ (10 ∷ text lines)
 
 ten_requests : lines_for 3 [] (1 ∷ 2 ∷ 3 ∷ 1 ∷ 4 ∷ 1 ∷ 2 ∷ 5 ∷ 3 ∷ 1 ∷ []) ≡ text (codes "1: fetched" ∷ codes "2: fetched" ∷ codes "3: fetched" ∷ codes "1: here" ∷ codes "4: fetched for 2" ∷ codes "1: here" ∷ codes "2: fetched for 3" ∷ codes "5: fetched for 4" ∷ codes "3: fetched for 1" ∷ codes "1: fetched for 2" ∷ [])
-unfolding lines_for lines_of answers replies reply lru has without last_of digits
+unfolding lines_for lines_of answers outcomes outcome lru has without last_of digits
 ten_requests = refl
 
 no_capacity : lines_for 0 [] (7 ∷ 7 ∷ []) ≡ text (codes "refused 1 at 0" ∷ codes "refused 1 at 0" ∷ [])

@@ -4,15 +4,15 @@
 --     row_room               a report's row has room for it
 --     made_report            the lines of a report's row are the report
 --     no_report              and where none is made, it is the number of capacities
-use Rattle.std.proofs.Common.{◌≡◌, ℕ, zero, suc, ◌+◌, ◌-◌, ◌*◌, ◌<◌, ◌≤◌, Bool, true, false, ◌⊎◌, List, [], ◌∷◌, ◌++◌, length, get_or, Some, None, sym, refl, ◌∙◌, append_assoc, append-nil, arith}
+use Rattle.std.proofs.Common.{◌≡◌, ℕ, zero, suc, ◌+◌, ◌-◌, ◌*◌, ◌<◌, ◌≤◌, Bool, true, false, ◌⊎◌, List, [], ◌∷◌, ◌++◌, length, get_or, take, drop, Some, None, sym, refl, ap, ◌∙◌, append_assoc, append-nil, arith}
 use Rattle.std.proofs.lemmas.Bool.{lt-ltb, le-ltb}
+use Rattle.std.proofs.lemmas.List.{drop_more}
 use Rattle.std.proofs.lemmas.Bool.Decides.{nat_tests}
 use Rattle.paging.specs.Belady.{belady_fetches, Fewest}
 use Rattle.paging.proofs.Belady.{fewest}
-use Rattle.lru_cache.specs.Refusals.{number_of, place_of}
 use Rattle.lru_cache.specs.Rows.{first_wide}
 use Rattle.lru_cache.specs.declared.refusals.Refusal.{Refusal}
-use Rattle.lru_cache.specs.declared.refusals.Refusal.TheVariants.{BadCapacities}
+use Rattle.lru_cache.specs.declared.refusals.Refusal.TheVariants.{LongTrace, BadCapacities}
 use Rattle.curve.specs.Refused.{refusal}
 use Rattle.curve.proofs.Reasons.{refused_capacities, refused_none}
 use Rattle.belady.specs.Reported.{Reported}
@@ -21,20 +21,40 @@ use Rattle.trace.specs.declared.lines.Line.TheVariants.{Report}
 use Rattle.day.specs.Said.{is_capacity}
 use Rattle.day.specs.Reports.{row_lines, counts_lines, refused_line, report_of}
 
-module _ (row : List ℕ) (m i : ℕ) (text all : List ℕ) (was : text ++ row_lines row m i (m - i) ≡ all) where
-  pub row_more :
-      (text' : List ℕ) → i < m → text' ≡ text ++ (line_bytes (Report (i + 1) (get_or row i 0) (get_or row (m + i) 0)) ++ (10 ∷ [])) →
-      text' ++ row_lines row m (i + 1) (m - (i + 1)) ≡ all
-  unfolding row_lines
-  row_more text' h f =
-      let left : m - i ≡ suc (m - (i + 1)) = omega arith in
-      rw (f, append_assoc, append_assoc) (rw left at was)
+-- the lines of two rows side by side: what LRU fetches, and the fewest possible
+unfoldable pub pair_lines : ℕ → List ℕ → List ℕ → List ℕ
+pair_lines c [] known = []
+pair_lines c (x ∷ house) [] = []
+pair_lines c (x ∷ house) (y ∷ known) = line_bytes (Report (c + 1) x y) ++ (10 ∷ pair_lines (c + 1) house known)
 
-  pub row_done : m ≤ i → text ≡ all
-  unfolding row_lines
-  row_done h =
-      let left : m - i ≡ 0 = omega arith in
-      sym (append-nil text) ∙ (rw left at was)
+no_pairs : (c : ℕ) (house known : List ℕ) → (length house ≡ 0) ⊎ (length known ≡ 0) → pair_lines c house known ≡ []
+unfolding pair_lines
+no_pairs c [] known end = refl
+no_pairs c (x ∷ house) [] end = refl
+no_pairs c (x ∷ house) (y ∷ known) end = absurd (omega arith)
+
+module _ (house known text all : List ℕ) where
+  pub row_more :
+      (c x y : ℕ) (text' : List ℕ) → text' ≡ text ++ (line_bytes (Report (c + 1) x y) ++ (10 ∷ [])) →
+      text ++ pair_lines c (x ∷ house) (y ∷ known) ≡ all → text' ++ pair_lines (c + 1) house known ≡ all
+  unfolding pair_lines
+  row_more c x y text' f was = rw (f, append_assoc, append_assoc) was
+
+  pub row_done : (c : ℕ) → (length house ≡ 0) ⊎ (length known ≡ 0) → text ++ pair_lines c house known ≡ all → text ≡ all
+  row_done c end was = let none : pair_lines c house known ≡ [] = no_pairs c house known end in sym (append-nil text) ∙ (rw none at was)
+
+-- side by side, the two halves of a row for m capacities are its lines
+pub pair_row :
+    (row : List ℕ) (m c n : ℕ) (house known : List ℕ) → house ≡ take n (drop c row) → known ≡ take n (drop (m + c) row) → m + c + n ≤ length row →
+    pair_lines c house known ≡ row_lines row m c n
+unfolding pair_lines row_lines
+pair_row row m c zero house known h k room = rw h refl
+pair_row row m c (suc n) house known h k room =
+    let x = drop_more row c 0 (omega arith) in
+    let y = drop_more row (m + c) 0 (omega arith) in
+    let rest = pair_row row m (c + 1) n (take n (drop (c + 1) row)) (take n (drop (m + (c + 1)) row)) refl refl (omega arith) in
+    let past : m + c + 1 ≡ m + (c + 1) = omega arith in
+    rw (h, k, x, y, past) (ap (λ (l : List ℕ). line_bytes (Report (c + 1) (get_or row c 0) (get_or row (m + c) 0)) ++ (10 ∷ l)) rest)
 
 -- the fewest is one number
 fewest_is : (c : ℕ) (trace : List ℕ) (n : ℕ) → 1 ≤ c → Fewest c trace n → n ≡ belady_fetches c [] trace
@@ -56,7 +76,7 @@ module _ (trace : List ℕ) (m : ℕ) (row row' : List ℕ) (made : Reported tra
       rw (rw at at house, rw past at known, counts (c + 1) n (omega arith))
 
 module _ (trace : List ℕ) (total m : ℕ) where
-  pub long_report : 4096 < total → report_of trace total m ≡ refused_line 4 total
+  pub long_report : 4096 < total → report_of trace total m ≡ refused_line (LongTrace total)
   unfolding report_of
   long_report long = rw (lt-ltb 4096 total long)
 
@@ -92,7 +112,7 @@ module _ (trace : List ℕ) (total m : ℕ) where
         let other = refused_capacities trace m len narrow few bad in
         record { no_capacity = is; reason = cc }
 
-    pub no_report : (e : Refusal) → refusal trace m len ≡ Some e → refused_line (number_of e) (place_of e) ≡ report_of trace total m
+    pub no_report : (e : Refusal) → refusal trace m len ≡ Some e → refused_line e ≡ report_of trace total m
     unfolding report_of
     no_report e some =
         let w = why (is_capacity m) e refl some in

@@ -2,22 +2,21 @@
 --     emptied         a row that begins with a capacity and no pages is a cache row, where the capacity is one
 --     played          a trace that is played: the row is one again, and each request has its reply
 --     refused         a trace that is turned away: the capacity is none, and each request is turned away
-use Rattle.std.proofs.Common.{◌≡◌, ℕ, ◌+◌, ◌≤◌, Bool, true, false, List, [], ◌∷◌, ◌++◌, length, get_or, take, drop, set, replicate, Some, None, refl, ap, ◌∙◌, arith}
-use Rattle.std.proofs.lemmas.List.{take_at, take_all, take-replicate}
+use Rattle.std.proofs.Common.{◌≡◌, ℕ, ◌+◌, ◌≤◌, Bool, true, false, List, [], ◌∷◌, ◌++◌, length, get_or, take, drop, set, replicate, map, Some, None, Ok, Err, refl, ap, ◌∙◌, arith}
+use Rattle.std.proofs.lemmas.List.{take_at, take_all}
 use Rattle.std.proofs.lemmas.Bool.Decides.{nat_tests}
 use Rattle.paging.specs.Lru.{lru_after}
 use Rattle.lru_cache.specs.Rows.{capacity, cached, shaped, fault, first_bad, first_wide, refusal}
-use Rattle.lru_cache.specs.Replies.{replies}
+use Rattle.recency.specs.declared.uses.Outcome.{Outcome}
+use Rattle.lru_cache.specs.Outcomes.{outcomes}
 use Rattle.lru_cache.specs.Promises.{Played}
 use Rattle.lru_cache.specs.declared.refusals.Refusal.{Refusal}
 use Rattle.lru_cache.specs.declared.refusals.Refusal.TheVariants.{NoCache}
-use Rattle.lru_cache.specs.declared.replies.Reply.{Reply}
-use Rattle.lru_cache.specs.declared.replies.Reply.TheVariants.{Refused}
 use Rattle.lru_cache.proofs.Faults.{fault_unshaped, fault_pages}
 use Rattle.lru_cache.proofs.Kept.{row_capacity, row_cached}
-use Rattle.lru_cache.proofs.Runs.{length_replies}
+use Rattle.lru_cache.proofs.Runs.{length_outcomes}
 use Rattle.lru_cache.proofs.Wholes.{refused_row, refused_trace}
-use Rattle.day.specs.Said.{is_capacity, Ready, answers, cache_at_end}
+use Rattle.day.specs.Said.{is_capacity, Ready, Reply, answers, cache_at_end}
 
 empty_ready : (row : List ℕ) (m : ℕ) → get_or row 1 0 ≡ 0 → 4098 ≤ length row → 36869 ≤ m → Ready row m
 unfolding first_bad
@@ -54,44 +53,45 @@ module _ (cache trace : List ℕ) (m : ℕ) where
   away false e is ready narrow some = let other = refused_row cache m trace NoCache (unfit cache m is) in record { no_capacity = is; why = cc }
 
 -- what is so after a trace, played or not
-pub record Answered (cache trace : List ℕ) (m : ℕ) (cache' : List ℕ) (told' : List Reply) : Type 0 where
+pub record Answered (cache trace : List ℕ) (m : ℕ) (cache' : List ℕ) (replies : List Reply) : Type 0 where
   pub ready : Ready cache' m
   pub same : capacity cache' ≡ capacity cache
   pub after : cached cache' ≡ cache_at_end (capacity cache) (cached cache) trace
-  pub replied : take (length trace) told' ≡ answers (capacity cache) (cached cache) trace
+  pub replied : replies ≡ answers (capacity cache) (cached cache) trace
 
-module _ (cache index trace : List ℕ) (told : List Reply) (room : length trace ≤ length told) where
+module _ (cache index trace : List ℕ) where
   pub played :
-      (n : ℕ) (cache' index' : List ℕ) (told' : List Reply) → length index' ≡ length index → refusal cache (length index) trace ≡ None →
-      Played cache index trace told n cache' index' told' → Answered cache trace (length index') cache' told'
+      (found : List Outcome) (n : ℕ) (cache' index' : List ℕ) (found' : List Outcome) → length trace ≤ length found → length index' ≡ length index →
+      refusal cache (length index) trace ≡ None → Played cache index trace found n cache' index' found' →
+      Answered cache trace (length index') cache' (map Ok (take (length trace) found'))
   unfolding answers cache_at_end
-  played n cache' index' told' long none p =
+  played found n cache' index' found' room long none p =
       let k = capacity cache in
+      let os = outcomes k (cached cache) trace in
       let pages = lru_after k (cached cache) trace in
       let rest = drop (2 + k) cache in
       let fit = fits cache trace (length index) (is_capacity k) refl none in
-      let many = length_replies k (cached cache) trace in
-      let all : take (length told) (replies k (cached cache) trace) ≡ replies k (cached cache) trace = take_all (length told) (replies k (cached cache) trace) (omega arith) in
+      let many = length_outcomes k (cached cache) trace in
+      let all : take (length found) os ≡ os = take_all (length found) os (omega arith) in
       record {
         ready = λ _. p.left.again;
         same = ap capacity p.left.row ∙ row_capacity k pages rest;
         after = rw fit (ap cached p.left.row ∙ row_cached k pages rest);
         replied = rw fit
-            (ap (take (length trace)) (p.replied ∙ ap (λ (rs : List Reply). rs ++ drop (length trace) told) all)
-            ∙ take_at (replies k (cached cache) trace) (drop (length trace) told) (length trace) many);
+            (ap (λ (xs : List Outcome). map Ok (take (length trace) xs)) (p.told ∙ ap (λ (xs : List Outcome). xs ++ drop (length trace) found) all)
+            ∙ ap (map Ok) (take_at os (drop (length trace) found) (length trace) many));
       }
 
   pub refused :
-      (e : Refusal) (cache' index' : List ℕ) (told₁ told' : List Reply) → Ready cache (length index) → first_wide trace ≡ None →
-      refusal cache (length index) trace ≡ Some e → cache' ≡ cache → index' ≡ index → told₁ ≡ told → told' ≡ replicate (length told₁) (Refused e) →
-      Answered cache trace (length index') cache' told'
+      (e : Refusal) (cache' index' : List ℕ) → Ready cache (length index) → first_wide trace ≡ None →
+      refusal cache (length index) trace ≡ Some e → cache' ≡ cache → index' ≡ index → Answered cache trace (length index') cache' (replicate (length trace) (Err e))
   unfolding answers cache_at_end
-  refused e cache' index' told₁ told' ready narrow some same_row same_index same-told say =
+  refused e cache' index' ready narrow some same_row same_index =
       let a = away cache trace (length index) (is_capacity (capacity cache)) e refl ready narrow some in
       let fit = a.no_capacity in
       record {
         ready = rw (same_row, same_index) ready;
         same = ap capacity same_row;
         after = rw fit (ap cached same_row);
-        replied = rw (fit, say, same-told, a.why) (take-replicate (length trace) (length told) (Refused NoCache) room);
+        replied = rw (fit, a.why) refl;
       }

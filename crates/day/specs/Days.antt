@@ -1,20 +1,15 @@
 -- A day of requests as they come in. Assumes nothing.
 --     kept day                  the requests that its report is made of: all of them, or the first 4,096
---     Prepared day              its rows can serve, and what it keeps are pages
 --     Begun header day          nothing was requested yet
 --     Went day requests day'    day' is day after these requests
-use Rattle.std.specs.Prelude.{◌≡◌, ℕ, ◌+◌, ◌-◌, ◌^◌, min, List, [], ◌++◌, length, take, None}
+use Rattle.std.specs.Prelude.{◌≡◌, ℕ, ◌+◌, ◌-◌, ◌^◌, min, List, [], ◌++◌, length, take}
 use Rattle.trace.specs.declared.headers.Header.{Header}
-use Rattle.lru_cache.specs.Rows.{capacity, cached, first_wide}
-use Rattle.day.specs.Said.{Ready, cache_at_end}
+use Rattle.lru_cache.specs.Rows.{capacity, cached}
+use Rattle.day.specs.Said.{cache_at_end}
 use Rattle.day.specs.declared.days.Day.{Day}
 
 abbrev pub kept : Day → List ℕ
 kept day = take day.total day.first
-
-pub record Prepared (day : Day) : Type 0 where
-  pub ready : Ready day.cache (length day.index)
-  pub small : first_wide (kept day) ≡ None
 
 pub record Begun (header : Header) (day : Day) : Type 0 where
   pub capacity_is : capacity day.cache ≡ header.capacity

@@ -1,10 +1,9 @@
 // A day of requests: the rows of its cache, and what its report is made of.
-ghost use Rattle.std.specs.Prelude.{◌≡◌, ◌≤◌, true, ◌++◌, length, is_ok, string_bytes};
+ghost use Rattle.std.specs.Prelude.{◌≡◌, ◌≤◌, true, ◌++◌, length, take, is_ok, None, string_bytes};
 ghost use Rattle.trace.specs.Requests.{requests_in};
-ghost use Rattle.lru_cache.specs.Rows.{capacity, cached};
-ghost use Rattle.day.specs.Said.{lines_for};
+ghost use Rattle.lru_cache.specs.Rows.{capacity, cached, first_wide};
+ghost use Rattle.day.specs.Said.{Ready, lines_for};
 ghost use Rattle.day.specs.Reports.{report_of};
-ghost use Rattle.day.specs.Days.{kept, Begun, Prepared, Went};
 
 use crate::pieces::{empty, keep, serve_bytes};
 use crate::reports::tell_report;
@@ -22,18 +21,23 @@ const INDEX_LEN: usize = 9 * MAX_CAPACITY + 5;
 pub struct Day {
     cache: [u64; CACHE_LEN],
     index: [u64; INDEX_LEN],
-    // the first requests, as many as a report is made of
+    // the first requests, as many as a report is made of, in fixed memory
     pub first: [u64; MAX_REQUESTS],
     // how many requests there were
     pub total: u64,
     // how many capacities the report goes up to
     pub reported: usize,
+    // the rows can serve
+    pub ghost ready: { Ready cache (length index) },
+    // what is kept are pages
+    pub ghost small: { first_wide (take total first) ≡ None },
 }
 
 impl Day {
+    ghost use Rattle.day.specs.Days.{kept, Begun, Went};
+
     // A day on which nothing was requested yet. Where the header's capacity is none, every request is turned away.
     pub fn new(header: Header) -> Day
-        ensures ready { Prepared result }
         ensures begun { Begun header result }
     {
         let mut day = Day {
@@ -49,9 +53,7 @@ impl Day {
 
     // Serves the requests that the bytes hold whole, and adds their lines to the text.
     pub fn serve(&mut self, bytes: &[u8], text: &mut String) -> fmt::Result
-        requires ready { Prepared self.old }
         requires short { length bytes.now ≤ 65536 }
-        ensures ready { Prepared self.new }
         ensures went { Went self.old (requests_in bytes.now) self.new }
         ensures lines { is_ok result ≡ true → string_bytes text.new ≡ string_bytes text.old ++ lines_for (capacity self.old.cache) (cached self.old.cache) (requests_in bytes.now) }
     {
@@ -59,9 +61,16 @@ impl Day {
         serve_bytes(&mut self.cache, &mut self.index, bytes, text)
     }
 
+    // The first requests, those that its report is made of: all of them, or as many as there is room for.
+    pub fn kept(&self) -> &[u64]
+        ensures value { result.now ≡ kept self.now }
+    {
+        let count = self.total.min(MAX_REQUESTS as u64) as usize;
+        &self.first[..count]
+    }
+
     // Adds the report's lines to the text, or the one that says why there is none.
     pub fn report(&self, text: &mut String) -> fmt::Result
-        requires ready { Prepared self.now }
         ensures lines { is_ok result ≡ true → string_bytes text.new ≡ string_bytes text.old ++ report_of (kept self.now) self.now.total self.now.reported }
     {
         tell_report(&self.first, self.total, self.reported, text)

@@ -4,8 +4,8 @@ ghost use Rattle.trace.specs.Requests.{requests_in};
 ghost use Rattle.lru_cache.specs.Rows.{capacity, cached, first_wide};
 ghost use Rattle.day.specs.Said.{Ready, lines_for, cache_at_end};
 
-use crate::replies::{answer, tell};
-use lru_cache::Reply;
+use crate::replies::{answer, tell, tell_refused};
+use lru_cache::Outcome;
 use std::fmt;
 
 // How many bytes are served at once at most: what a pipe holds.
@@ -39,10 +39,13 @@ pub(crate) fn serve_bytes(
     ensures lines { is_ok result ≡ true → string_bytes text.new ≡ string_bytes text.old ++ lines_for (capacity cache.old) (cached cache.old) (requests_in bytes.now) }
 {
     let mut pages = [0u64; REQUESTS];
-    let mut replies = [Reply::Here; REQUESTS];
+    let mut found = [Outcome::Hit; REQUESTS];
     let count = trace::decode(bytes, &mut pages);
-    answer(cache, index, &pages[0..count], &mut replies);
-    tell(&pages[0..count], &replies, text)
+    let trace = &pages[..count];
+    match answer(cache, index, trace, &mut found) {
+        Ok(()) => tell(trace, &found[..count], text),
+        Err(refusal) => tell_refused(trace, refusal, text),
+    }
 }
 
 // Writes the pages that the bytes request behind those that a trace of `total` requests has in `first`, as far as there is room, and says how

@@ -1,7 +1,6 @@
 // The report as text.
 ghost use Rattle.std.specs.Prelude.{◌≡◌, ◌*◌, ◌≤◌, true, ◌++◌, length, take, is_ok, None, string_bytes};
 ghost use Rattle.lru_cache.specs.Rows.{first_wide};
-ghost use Rattle.lru_cache.specs.Refusals.{number_of, place_of};
 ghost use Rattle.day.specs.Reports.{row_lines, refused_line, report_of};
 
 use curve::{MAX_CAPACITIES, MAX_REQUESTS};
@@ -17,19 +16,27 @@ fn tell_row(row: &[u64], m: usize, text: &mut String) -> fmt::Result
     requires long { 2 * m ≤ length row.now }
     ensures lines { is_ok result ≡ true → string_bytes text.new ≡ string_bytes text.old ++ row_lines row.now m 0 m }
 {
-    for i in 0..m {
-        let line = Line::Report(i as u64 + 1, row[i], row[m + i]);
-        writeln!(text, "{line}")?;
+    let (house, known) = row.split_at(m);
+    for (i, (&house, &known)) in house.iter().zip(&known[..m]).enumerate() {
+        let places = i as u64 + 1;
+        writeln!(
+            text,
+            "{}",
+            Line::Report {
+                places,
+                house,
+                known
+            }
+        )?;
     }
     Ok(())
 }
 
 // Adds the line of a refusal.
 fn tell_refusal(refusal: Refusal, text: &mut String) -> fmt::Result
-    ensures lines { is_ok result ≡ true → string_bytes text.new ≡ string_bytes text.old ++ refused_line (number_of refusal) (place_of refusal) }
+    ensures lines { is_ok result ≡ true → string_bytes text.new ≡ string_bytes text.old ++ refused_line refusal }
 {
-    let line = Line::Refused(refusal.number(), refusal.place());
-    writeln!(text, "{line}")?;
+    writeln!(text, "{refusal}")?;
     Ok(())
 }
 
@@ -43,7 +50,7 @@ pub(crate) fn tell_report(first: &[u64], total: u64, m: usize, text: &mut String
         return tell_refusal(Refusal::LongTrace(total), text);
     }
     let mut row = [0u64; REPORT_LEN];
-    match belady::report(&first[0..total as usize], m, &mut row) {
+    match belady::report(&first[..total as usize], m, &mut row) {
         Ok(()) => tell_row(&row, m, text),
         Err(refusal) => tell_refusal(refusal, text),
     }

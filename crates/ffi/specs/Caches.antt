@@ -4,11 +4,11 @@
 --     Answered cache index page r ..   one request was served: what became of it, and the rows
 --     Counted cache index trace r ..   a trace was played: how many fetches, the rows, and the bound
 --     Untouched e cache index r ..     that was the reason not to, and the rows are as they were
-use Rattle.std.specs.Prelude.{◌≡◌, ℕ, ◌+◌, ◌*◌, Bool, ◌&&◌, List, [], drop, nat_le}
+use Rattle.std.specs.Prelude.{◌≡◌, ℕ, ◌+◌, ◌*◌, Bool, ◌&&◌, List, [], drop, Ok, nat_le}
 use Rattle.paging.specs.Lru.{lru, lru_fetches, lru_after}
 use Rattle.lru_cache.specs.declared.refusals.Refusal.{Refusal}
 use Rattle.lru_cache.specs.Rows.{capacity, cached, row_of}
-use Rattle.lru_cache.specs.Replies.{reply}
+use Rattle.recency.specs.Outcome.{outcome}
 use Rattle.lru_cache.specs.Promises.{Indexed, Left, Bounded}
 use Rattle.ffi.specs.Numbers.{as_count, as_refusal, as_told}
 
@@ -21,7 +21,7 @@ pub record Opened (k : ℕ) (cache index : List ℕ) (r : ℕ) (cache' index' : 
   pub indexed : Indexed k [] index index'
 
 pub record Answered (cache index : List ℕ) (page r : ℕ) (cache' index' : List ℕ) : Type 0 where
-  pub value : r ≡ as_told (reply (capacity cache) (cached cache) page)
+  pub value : r ≡ as_told (Ok (outcome (capacity cache) (cached cache) page))
   pub left : Left (lru (capacity cache) (cached cache) page) cache index cache' index'
 
 pub record Counted (cache index trace : List ℕ) (r : ℕ) (cache' index' : List ℕ) : Type 0 where

@@ -1,15 +1,22 @@
 -- What is promised of a whole challenge of one of the library's policies, for every answer r. Assumes nothing: these are definitions.
 --     no_contest k h n             why there is no challenge of k places beside h whose counts go to a row of n numbers, or None
 --     Contested k h m counts r ..  it was played to its end, or there was no memory and nothing has changed
+--     Counted k h m c              these are the counts after m rounds
 --     Ended k h m counts r ..      m rounds were played: how many requests there were, how many the policy fetched, how many the schedule
 use Rattle.std.specs.Prelude.{◌≡◌, ℕ, suc, ◌+◌, ◌-◌, ◌*◌, cond, ◌&&◌, ◌⊎◌, List, ◌∷◌, drop, Some, None, Option, nat_le}
 use Rattle.lru_cache.specs.declared.refusals.Refusal.{Refusal}
 use Rattle.lru_cache.specs.declared.refusals.Refusal.TheVariants.{NoCache, BadPlaces}
+use Rattle.runs.specs.declared.counts.Counts.{Counts}
 use Rattle.ffi.specs.Numbers.{as_count, starved}
 
 abbrev pub no_contest : ℕ → ℕ → ℕ → Option Refusal
 no_contest k h n =
     cond (nat_le 3 n && (nat_le 1 k && nat_le k 4096)) (cond (nat_le 1 h && nat_le h k) None (Some (BadPlaces h))) (Some NoCache)
+
+pub record Counted (k h m : ℕ) (c : Counts) : Type 0 where
+  pub requests : c.requests ≡ h + m * k
+  pub fetches : c.fetches ≡ h + m * k
+  pub beside : c.beside ≡ h + m * (suc k - h)
 
 pub record Ended (k h m : ℕ) (counts : List ℕ) (r : ℕ) (counts' : List ℕ) : Type 0 where
   pub value : r ≡ as_count (h + m * k)

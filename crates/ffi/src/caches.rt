@@ -15,10 +15,7 @@ pub extern "C" fn dq_open(k: usize, cache: &mut [u64], index: &mut [u64]) -> u64
     let Some(len) = recency::row_len(k) else {
         return refuse(Refusal::NoCache);
     };
-    if cache.len() < 2 + k {
-        return refuse(Refusal::NoCache);
-    }
-    if index.len() < len {
+    if cache.len() < 2 + k || index.len() < len {
         return refuse(Refusal::NoCache);
     }
     let _ = recency::clear(index, k);

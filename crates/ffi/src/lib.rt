@@ -6,4 +6,5 @@ mod challenges;
 mod contests;
 mod packs;
 mod reports;
+mod sides;
 mod states;

@@ -1,8 +1,9 @@
-// What a function answers as one number: a tag in the low byte, which says what happened, and above it a page, a count or a place.
+// What a function answers as one number: a tag in the low byte, which says what happened, and above it a page, a count or a place. C has no
+// enums with values in them.
 ghost use Rattle.std.specs.Prelude.{◌≡◌, ◌<◌};
 ghost use Rattle.ffi.specs.Numbers.{packed, as_count, as_page, as_unknown, starved, as_refusal, as_told};
 
-use lru_cache::{Refusal, Reply};
+use lru_cache::{Outcome, Refusal};
 
 // The largest number that fits above the tag.
 const LARGEST: u64 = 0xff_ffff_ffff_ffff;
@@ -51,13 +52,13 @@ pub(crate) fn refuse(refusal: Refusal) -> u64
 }
 
 // A request was served, or turned away.
-pub(crate) fn tell(reply: Reply) -> u64
+pub(crate) fn tell(reply: Result<Outcome, Refusal>) -> u64
     ensures value { result ≡ as_told reply }
 {
     match reply {
-        Reply::Here => pack(0, 0),
-        Reply::Fetched => pack(1, 0),
-        Reply::FetchedFor(page) => pack(2, page),
-        Reply::Refused(refusal) => refuse(refusal),
+        Ok(Outcome::Hit) => pack(0, 0),
+        Ok(Outcome::Filled) => pack(1, 0),
+        Ok(Outcome::Evicted(page)) => pack(2, page),
+        Err(refusal) => refuse(refusal),
     }
 }

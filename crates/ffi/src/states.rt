@@ -1,4 +1,4 @@
-// Where a challenge stands, as eight numbers in front of a lent row.
+// Where a challenge stands, as eight numbers in front of a lent row: C has no struct that keeps what holds of them.
 ghost use Rattle.std.specs.Prelude.{◌≡◌, ◌≤◌, false, ◌++◌, length, drop, MatchOption};
 ghost use Rattle.ffi.specs.States.{stands, numbers_of, Stands};
 
@@ -10,33 +10,33 @@ use recency::MAX_CAPACITY;
 pub(crate) fn read(state: &[u64], len: usize) -> Option<Challenge>
     ensures cases { MatchOption result (stands state.now len ≡ false) (λ c. Stands state.now len c) }
 {
-    let [k, h, next, listed, noted, picks, shown, last, ..] = state else {
+    let &[k, h, next, listed, noted, picks, shown, last, ..] = state else {
         return None;
     };
-    if *h < 1 || *h > *k || *k > MAX_CAPACITY as u64 {
+    if h < 1 || h > k || k > MAX_CAPACITY as u64 {
         return None;
     }
-    if *listed > *k + 1 || *listed >= *next || *next > 0x1_0000_0000 {
+    if listed > k + 1 || listed >= next || next > 0x1_0000_0000 {
         return None;
     }
-    if *noted > *picks || *picks >= *h {
+    if noted > picks || picks >= h {
         return None;
     }
-    if *shown > *k || (*next == 1 && *shown > 0) {
+    if shown > k || (next == 1 && shown > 0) {
         return None;
     }
-    if (len as u64) < 3 * *k + 1 {
+    if (len as u64) < 3 * k + 1 {
         return None;
     }
     Some(Challenge {
-        k: *k as usize,
-        h: *h as usize,
-        next: *next,
-        listed: *listed as usize,
-        noted: *noted as usize,
-        picks: *picks as usize,
-        shown: *shown as usize,
-        last: *last,
+        k: k as usize,
+        h: h as usize,
+        next,
+        listed: listed as usize,
+        noted: noted as usize,
+        picks: picks as usize,
+        shown: shown as usize,
+        last,
     })
 }
 
@@ -45,12 +45,14 @@ pub(crate) fn write(state: &mut [u64], challenge: Challenge)
     requires long { 8 ≤ length state.old }
     ensures after { state.new ≡ numbers_of challenge ++ drop 8 state.old }
 {
-    state[0] = challenge.k as u64;
-    state[1] = challenge.h as u64;
-    state[2] = challenge.next;
-    state[3] = challenge.listed as u64;
-    state[4] = challenge.noted as u64;
-    state[5] = challenge.picks as u64;
-    state[6] = challenge.shown as u64;
-    state[7] = challenge.last;
+    state[..8].copy_from_slice(&[
+        challenge.k as u64,
+        challenge.h as u64,
+        challenge.next,
+        challenge.listed as u64,
+        challenge.noted as u64,
+        challenge.picks as u64,
+        challenge.shown as u64,
+        challenge.last,
+    ]);
 }

@@ -1,2 +1,1 @@
-mod Admits
-mod Rules
+pub mod Rules

@@ -1,4 +1,4 @@
-mod Leasts
-mod Pairs
-mod Capped
-mod Requests
+pub mod Leasts
+pub mod Pairs
+pub mod Capped
+pub mod Requests

@@ -1,7 +1,6 @@
 -- Two rows side by side as entries: what stands at a place, the entry of a page taken out, and the least requested taken out.
-use Rattle.std.proofs.Common.{◌≡◌, ℕ, zero, suc, ◌<◌, ◌≤◌, min, Bool, true, false, cond, eqb, ltb, List, [], ◌∷◌, length, get_or, take, refl, ap, ◌∙◌, arith}
+use Rattle.std.proofs.Common.{◌≡◌, ℕ, zero, suc, ◌<◌, ◌≤◌, min, Bool, true, false, cond, eqb, ltb, List, [], ◌∷◌, length, get_or, refl, ap, ◌∙◌, arith}
 use Rattle.std.specs.List.{remove}
-use Rattle.std.proofs.lemmas.List.{length-take}
 use Rattle.std.proofs.lemmas.Bool.Decides.{nat_tests}
 use Rattle.paging.specs.Failing.{Entry, pages_in, count_of, others, fewest, counted, spared}
 use Rattle.paging.specs.Lists.{has, distinct, place}
@@ -21,7 +20,7 @@ length_paired [] counts e = refl
 length_paired (x ∷ xs) [] e = absurd (omega arith)
 length_paired (x ∷ xs) (c ∷ cs) e = ap suc (length_paired xs cs (omega arith))
 
-paired_removed :
+pub paired_removed :
     (pages counts : List ℕ) (at : ℕ) → length counts ≡ length pages → at < length pages →
     paired (remove pages at) (remove counts at) ≡ remove (paired pages counts) at
 unfolding paired
@@ -29,25 +28,6 @@ paired_removed [] counts at e lt = absurd (omega arith)
 paired_removed (x ∷ xs) [] at e lt = absurd (omega arith)
 paired_removed (x ∷ xs) (c ∷ cs) zero e lt = refl
 paired_removed (x ∷ xs) (c ∷ cs) (suc at) e lt = ap (λ (es : List Entry). record { page = x; count = c } ∷ es) (paired_removed xs cs at (omega arith) (omega arith))
-
--- the first n of a row after a number came to the front in the place of another
-front_removed : (row : List ℕ) (n at x : ℕ) → at < n → n ≤ length row → take n (x ∷ remove row at) ≡ x ∷ remove (take n row) at
-front_removed [] n at x lt le = absurd (omega arith)
-front_removed (y ∷ ys) zero at x lt le = absurd (omega arith)
-front_removed (y ∷ ys) (suc n) zero x lt le = refl
-front_removed (y ∷ ys) (suc n) (suc at) x lt le = ap (λ (zs : List ℕ). x ∷ zs) (front_removed ys n at y (omega arith) (omega arith))
-
-pub put_both :
-    (pages counts : List ℕ) (n at page count : ℕ) → length counts ≡ length pages → n ≤ length pages → at < n →
-    paired (take n (page ∷ remove pages at)) (take n (count ∷ remove counts at))
-    ≡ record { page = page; count = count } ∷ remove (paired (take n pages) (take n counts)) at
-unfolding paired
-put_both pages counts n at page count e le lt =
-    let a = front_removed pages n at page lt le in
-    let b = front_removed counts n at count lt (omega arith) in
-    let l = length-take n pages in
-    let m = length-take n counts in
-    rw (a, b) (ap (λ (es : List Entry). record { page = page; count = count } ∷ es) (paired_removed (take n pages) (take n counts) at (omega arith) (omega arith)))
 
 -- the entry of a page that is there
 pub others_there :

@@ -1,4 +1,5 @@
 -- The least requested goes, with counts that a machine holds. Assumes nothing: these are definitions.
+--     entry page count               the entry of a page that was requested so often
 --     paired pages counts            the entries that two rows hold side by side
 --     most                           the largest count, 2^64 - 1: one that comes there stays there
 --     served k es page               the entries after a request for page: its count is one more, and of a full cache the page with the least
@@ -11,6 +12,9 @@ use Rattle.paging.specs.Failing.{Entry, pages_in, count_of, others, fewest, spar
 use Rattle.paging.specs.Lists.{has}
 use Rattle.paging.specs.Policies.{Policy}
 use Rattle.paging.specs.Rules.{Proper}
+
+abbrev pub entry : ℕ → ℕ → Entry
+entry page count = record { page = page; count = count }
 
 unfoldable pub paired : List ℕ → List ℕ → List Entry
 paired [] counts = []

@@ -4,8 +4,7 @@ use Rattle.paging.specs.Lists.{has, last_of}
 use Rattle.recency.specs.Outcome.{outcome}
 use Rattle.recency.specs.declared.uses.Outcome.{Outcome}
 use Rattle.recency.specs.declared.uses.Outcome.TheVariants.{Hit, Filled, Evicted}
-use Rattle.lru_cache.specs.Replies.{as_reply, fetches_of, reply}
-use Rattle.lru_cache.specs.declared.replies.Reply.TheVariants.{Here, Fetched, FetchedFor}
+use Rattle.lru_cache.specs.Outcomes.{fetches_of}
 
 chosen : ℕ → Bool → Bool → Outcome
 chosen page there room = cond there Hit (cond room Filled (Evicted page))
@@ -24,12 +23,6 @@ unfolding chosen
 was_not page true room o e not-hit = absurd (not-hit e)
 was_not page false room o e not-hit = refl
 
-told_so : (page : ℕ) (there room : Bool) → as_reply (chosen page there room) ≡ cond there Here (cond room Fetched (FetchedFor page))
-unfolding chosen
-told_so page true room = refl
-told_so page false true = refl
-told_so page false false = refl
-
 costs : (page : ℕ) (there room : Bool) → fetches_of (chosen page there room) ≡ cond there 0 1
 unfolding chosen
 costs page true room = refl
@@ -44,10 +37,6 @@ module _ (k : ℕ) (cache : List ℕ) (page : ℕ) where
   pub no_hit_absent : (o : Outcome) → o ≡ outcome k cache page → (o ≡ Hit → ⊥) → has cache page ≡ false
   unfolding outcome chosen
   no_hit_absent o e not-hit = was_not (last_of cache) (has cache page) (ltb (length cache) k) o e not-hit
-
-  pub outcome_reply : as_reply (outcome k cache page) ≡ reply k cache page
-  unfolding outcome reply chosen
-  outcome_reply = told_so (last_of cache) (has cache page) (ltb (length cache) k)
 
   pub outcome_fetches : fetches_of (outcome k cache page) ≡ cond (has cache page) 0 1
   unfolding outcome chosen

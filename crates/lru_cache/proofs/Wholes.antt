@@ -3,11 +3,11 @@ use Rattle.std.proofs.Common.{◌≡◌, ℕ, ◌+◌, List, ◌++◌, length, t
 use Rattle.paging.specs.Lru.{lru_fetches, lru_after}
 use Rattle.paging.proofs.Competitive.{competitive_from}
 use Rattle.recency.specs.Row as recent
+use Rattle.recency.specs.declared.uses.Outcome.{Outcome}
 use Rattle.lru_cache.specs.Rows.{capacity, cached, row_of, fault, first_wide, refusal}
-use Rattle.lru_cache.specs.Replies.{replies}
+use Rattle.lru_cache.specs.Outcomes.{outcomes}
 use Rattle.lru_cache.specs.Promises.{Checked, Indexed, Left, Played}
 use Rattle.lru_cache.specs.declared.refusals.Refusal.{Refusal}
-use Rattle.lru_cache.specs.declared.replies.Reply.{Reply}
 use Rattle.lru_cache.proofs.Kept.{row_again, after_small, after_once, after_few}
 use Rattle.lru_cache.proofs.Written.{length_cached}
 
@@ -40,18 +40,18 @@ module _ (cache index trace : List ℕ) (k n : ℕ) (checked : Checked cache (le
       }
 
   pub whole_played :
-      (told told' : List Reply) (fetches : ℕ) (index₁ cache' index' : List ℕ) → length index' ≡ length index → Indexed k (cached cache) index index₁ →
+      (found found' : List Outcome) (fetches : ℕ) (index₁ cache' index' : List ℕ) → length index' ≡ length index → Indexed k (cached cache) index index₁ →
       fetches ≡ lru_fetches k (recent.pages index₁) trace →
-      told' ≡ take (length told) (replies k (recent.pages index₁) trace) ++ drop (length trace) told →
+      found' ≡ take (length found) (outcomes k (recent.pages index₁) trace) ++ drop (length trace) found →
       Indexed k (lru_after k (recent.pages index₁) trace) index₁ index' → cache' ≡ row_of k (recent.pages index') (drop (2 + k) cache) →
-      Played cache index trace told fetches cache' index' told'
-  whole_played told told' fetches index₁ cache' index' long opened count replied ran is =
+      Played cache index trace found fetches cache' index' found'
+  whole_played found found' fetches index₁ cache' index' long opened count told ran is =
       let p = opened.holds in
       let c = checked.capacity_is in
       let left = whole_left cache' index' long (record { sound = ran.sound; holds = rw p at ran.holds; beyond = ran.beyond ∙ opened.beyond }) is in
       record {
         fetches = rw c at (rw p at count);
-        replied = rw c at (rw p at replied);
+        told = rw c at (rw p at told);
         left = rw c at left;
         bounded = λ h start schedule low le ok.
             rw (rw c at (rw p at count)) (competitive_from (capacity cache) h (cached cache) trace start schedule low le ok);

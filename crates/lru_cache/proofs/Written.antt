@@ -1,8 +1,8 @@
 -- A cache row read into its index page by page, and written from it.
-use Rattle.std.proofs.Common.{◌≡◌, ℕ, suc, ◌+◌, ◌-◌, ◌<◌, ◌≤◌, true, false, List, [], ◌∷◌, ◌++◌, length, get_or, take, drop, set, replicate, sym, ap, ◌∙◌, arith}
+use Rattle.std.proofs.Common.{◌≡◌, ℕ, suc, ◌+◌, ◌-◌, ◌≤◌, true, List, [], ◌∷◌, ◌++◌, length, get_or, take, drop, set, replicate, ap, ◌∙◌, arith}
 use borrow.Rule.Slice.PartMut.{put_mid}
-use Rattle.std.proofs.lemmas.List.{drop_more, take-append-drop, take_all, drop-replicate, length-take, length-drop, get_or-take, get_or-drop}
-use Rattle.paging.specs.Lists.{has, distinct}
+use Rattle.std.proofs.lemmas.List.{take_all, drop-replicate, length-append, length-replicate, length-take, length-drop}
+use Rattle.paging.specs.Lists.{distinct}
 use Rattle.paging.specs.Lru.{lru}
 use Rattle.paging.proofs.Appends.{distinct_back, distinct_cons}
 use Rattle.paging.proofs.Requests.{lru_free}
@@ -11,31 +11,23 @@ use Rattle.lru_cache.specs.Rows.{cached}
 pub length_cached : (row : List ℕ) (k : ℕ) → get_or row 1 0 ≤ k → 2 + k ≤ length row → length (cached row) ≡ get_or row 1 0
 length_cached row k few long = let a = length-take (get_or row 1 0) (drop 2 row) in let b = length-drop 2 row in omega arith
 
-pub cached_at : (row : List ℕ) (i : ℕ) → i < get_or row 1 0 → get_or (cached row) i 0 ≡ get_or row (2 + i) 0
-cached_at row i lt = get_or-take (get_or row 1 0) (drop 2 row) i 0 lt ∙ get_or-drop 2 row i 0
-
--- the page before those that are in the index is not among them
-pub read_new : (pages : List ℕ) (i : ℕ) → distinct pages ≡ true → i < length pages → has (drop (i + 1) pages) (get_or pages i 0) ≡ false
-read_new pages i once lt =
-    let apart : distinct (get_or pages i 0 ∷ drop (i + 1) pages) ≡ true =
-    ap distinct (sym (drop_more pages i 0 lt)) ∙ distinct_back (take i pages) (drop i pages) (ap distinct (take-append-drop i pages) ∙ once) in
-    (distinct_cons (get_or pages i 0) (drop (i + 1) pages) apart).0
-
--- and comes in front of them
+-- the page that stands before those in the index is not among them, and comes in front of them
 pub read_more :
-    (k : ℕ) (pages : List ℕ) (i : ℕ) → distinct pages ≡ true → length pages ≤ k → i < length pages → lru k (drop (i + 1) pages) (get_or pages i 0) ≡ drop i pages
-read_more k pages i once few lt =
-    let l = length-drop (i + 1) pages in
-    lru_free k (get_or pages i 0) (drop (i + 1) pages) (read_new pages i once lt) (omega arith) ∙ sym (drop_more pages i 0 lt)
+    (k : ℕ) (left : List ℕ) (page : ℕ) (pages whole : List ℕ) → left ++ page ∷ pages ≡ whole → distinct whole ≡ true → length whole ≤ k →
+    lru k pages page ≡ page ∷ pages
+read_more k left page pages whole is once few =
+    let apart : distinct (page ∷ pages) ≡ true = distinct_back left (page ∷ pages) (ap distinct is ∙ once) in
+    let l = length-append left (page ∷ pages) in
+    let m = ap length is in
+    lru_free k page pages (distinct_cons page pages apart).0 (omega arith)
 
 -- the places: the pages, and 0 in the free ones
 pub places_are :
-    (k : ℕ) (pages zeros : List ℕ) → length zeros ≡ k → take k zeros ≡ replicate k 0 → length pages ≤ k →
-    take (length zeros) pages ++ drop (length pages) zeros ≡ pages ++ replicate (k - length pages) 0
-places_are k pages zeros long clear few =
-    let z : zeros ≡ replicate k 0 = sym (take_all k zeros (omega arith)) ∙ clear in
+    (k : ℕ) (pages zeros : List ℕ) → zeros ≡ replicate k 0 → length pages ≤ k → take (length zeros) pages ++ drop (length pages) zeros ≡ pages ++ replicate (k - length pages) 0
+places_are k pages zeros clear few =
+    let long : length zeros ≡ k = ap length clear ∙ length-replicate k 0 in
     let a = take_all (length zeros) pages (omega arith) in
-    let b : drop (length pages) zeros ≡ replicate (k - length pages) 0 = ap (drop (length pages)) z ∙ drop-replicate (length pages) k 0 in
+    let b : drop (length pages) zeros ≡ replicate (k - length pages) 0 = ap (drop (length pages)) clear ∙ drop-replicate (length pages) k 0 in
     cc
 
 pub row_written :

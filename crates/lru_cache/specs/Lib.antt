@@ -1,4 +1,4 @@
 pub mod Refusals
 pub mod Rows
-pub mod Replies
+pub mod Outcomes
 pub mod Promises

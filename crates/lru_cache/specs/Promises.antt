@@ -6,17 +6,18 @@
 --     Left pages cache index ..       the rows hold these pages now: the cache row number by number, the index row as its index; beyond
 --                                     their lengths they are as they were, and the cache row is one that is served again
 --     Bounded k start trace n         n fetches are never much more than what any schedule makes
---     Served ..                       one request was served: the reply, and the rows
---     Played ..                       a trace was played: how many fetches, the replies, the rows, and the bound
+--     Served ..                       one request was served: its outcome, and the rows
+--     Played ..                       a trace was played: how many fetches, the outcomes, the rows, and the bound
 use Rattle.std.specs.Prelude.{◌≡◌, ℕ, suc, ◌+◌, ◌-◌, ◌*◌, ◌^◌, ◌<◌, ◌≤◌, true, List, ◌++◌, length, take, drop, None, slice_index}
 use Rattle.paging.specs.Lists.{has, distinct}
 use Rattle.paging.specs.Lru.{lru, lru_fetches, lru_after}
 use Rattle.paging.specs.Schedules.{feasible, schedule_fetches}
+use Rattle.recency.specs.Outcome.{outcome}
 use Rattle.recency.specs.Row as recent
 use Rattle.recency.specs.Sound.{Sound}
-use Rattle.lru_cache.specs.declared.replies.Reply.{Reply}
+use Rattle.recency.specs.declared.uses.Outcome.{Outcome}
 use Rattle.lru_cache.specs.Rows.{capacity, cached, row_of, shaped, fault}
-use Rattle.lru_cache.specs.Replies.{reply, replies}
+use Rattle.lru_cache.specs.Outcomes.{outcomes}
 
 abbrev pub Small : List ℕ → Type 0
 Small pages = (x : ℕ) → has pages x ≡ true → x < 2 ^ 32
@@ -56,13 +57,13 @@ Bounded k trace n =
     (h : ℕ) (start : List ℕ) (schedule : List (List ℕ)) → 0 < h → h ≤ k → feasible h start trace schedule ≡ true →
     (suc k - h) * n ≤ k * (length start + schedule_fetches start trace schedule)
 
-pub record Played (cache index trace : List ℕ) (told : List Reply) (n : ℕ) (cache' index' : List ℕ) (told' : List Reply) : Type 0 where
+pub record Played (cache index trace : List ℕ) (found : List Outcome) (n : ℕ) (cache' index' : List ℕ) (found' : List Outcome) : Type 0 where
   pub fetches : n ≡ lru_fetches (capacity cache) (cached cache) trace
-  pub replied : told' ≡ take (length told) (replies (capacity cache) (cached cache) trace) ++ drop (length trace) told
+  pub told : found' ≡ take (length found) (outcomes (capacity cache) (cached cache) trace) ++ drop (length trace) found
   pub left : Left (lru_after (capacity cache) (cached cache) trace) cache index cache' index'
   pub bounded : Bounded (capacity cache) trace n
 
--- one request was served: the reply, and the rows
-pub record Served (cache index : List ℕ) (page : ℕ) (r : Reply) (cache' index' : List ℕ) : Type 0 where
-  pub value : r ≡ reply (capacity cache) (cached cache) page
+-- one request was served: its outcome, and the rows
+pub record Served (cache index : List ℕ) (page : ℕ) (o : Outcome) (cache' index' : List ℕ) : Type 0 where
+  pub value : o ≡ outcome (capacity cache) (cached cache) page
   pub left : Left (lru (capacity cache) (cached cache) page) cache index cache' index'

@@ -1,7 +1,8 @@
--- The number and the place of each reason to turn input away. Assumes nothing: these are definitions.
---     number_of e     its number, 1 to 8
---     place_of e      where it applies
-use Rattle.std.specs.Prelude.{ℕ, ◌^◌}
+-- The number and the place of each reason to turn input away, and what is printed of it. Assumes nothing: these are definitions.
+--     number_of e         its number, 1 to 8
+--     place_of e          where it applies
+--     refusal_bytes e     what is printed of it, as bytes: `refused 1 at 0`
+use Rattle.std.specs.Prelude.{ℕ, ◌^◌, List, ◌++◌, codes, decimal}
 use Rattle.lru_cache.specs.declared.refusals.Refusal.{Refusal}
 use Rattle.lru_cache.specs.declared.refusals.Refusal.TheVariants.{NoCache, Overfull, BadPage, BadRequest, LongTrace, BadCapacities, ShortReport, BadPlaces, BrokenRule, NoPageLeft}
 
@@ -28,3 +29,6 @@ place_of (ShortReport len) = len
 place_of (BadPlaces h) = h
 place_of (BrokenRule at) = at
 place_of NoPageLeft = 2 ^ 32
+
+abbrev pub refusal_bytes : Refusal → List ℕ
+refusal_bytes e = codes "refused " ++ (decimal (number_of e) ++ (codes " at " ++ decimal (place_of e)))

@@ -4,11 +4,10 @@
 mod checks;
 mod plays;
 mod refusals;
-mod replies;
 mod rows;
 
 pub use checks::{check, first_wide};
 pub use plays::{play, request, serve};
+pub use recency::Outcome;
 pub use refusals::Refusal;
-pub use replies::Reply;
 pub use rows::{close, open};

@@ -1,9 +1,12 @@
 // Why input is turned away. Each reason has a number, and a place that says where.
-ghost use Rattle.std.specs.Prelude.{◌≡◌};
-ghost use Rattle.lru_cache.specs.Refusals.{number_of, place_of};
+ghost use Rattle.std.specs.Prelude.{◌≡◌, Some};
+ghost use Rattle.lru_cache.specs.Refusals.{number_of, place_of, refusal_bytes};
+
+use std::error::Error;
+use std::fmt;
 
 // Of several that apply the one with the lowest number is told.
-#[derive(Clone, Copy)]
+#[derive(Clone, Copy, Debug, PartialEq, Eq)]
 pub enum Refusal {
     // 1 at 0: the cache row has no room for its capacity, which is to be 1 to 4,096, or the index row is too short for it.
     NoCache,
@@ -33,20 +36,18 @@ impl Refusal {
         ensures value { result ≡ number_of self }
     {
         match self {
-            Refusal::NoCache => 1,
-            Refusal::Overfull => 1,
+            Refusal::NoCache | Refusal::Overfull => 1,
             Refusal::BadPage(_) => 2,
             Refusal::BadRequest(_) => 3,
             Refusal::LongTrace(_) => 4,
-            Refusal::BadCapacities(_) => 5,
-            Refusal::ShortReport(_) => 5,
+            Refusal::BadCapacities(_) | Refusal::ShortReport(_) => 5,
             Refusal::BadPlaces(_) => 6,
             Refusal::BrokenRule(_) => 7,
             Refusal::NoPageLeft => 8,
         }
     }
 
-    // Where it applies.
+    // Where it applies. Arm by arm, as the definition has it: each names what its number is.
     pub fn place(self) -> u64
         ensures value { result ≡ place_of self }
     {
@@ -64,3 +65,13 @@ impl Refusal {
         }
     }
 }
+
+impl fmt::Display for Refusal {
+    ghost output = { λ e. Some (refusal_bytes e) };
+
+    fn fmt<W: fmt::Write>(&self, f: &mut fmt::Formatter<W>) -> fmt::Result {
+        write!(f, "refused {} at {}", self.number(), self.place())
+    }
+}
+
+impl Error for Refusal {}

@@ -11,21 +11,20 @@ pub fn open(cache: &[u64], index: &mut [u64], k: usize, n: usize)
     ensures after { Indexed k (cached cache.now) index.old index.new }
 {
     let _ = recency::clear(index, k);
-    for i in (0..n).rev() {
-        let _ = recency::request(index, k, cache[2 + i]);
+    for &page in cache[2..2 + n].iter().rev() {
+        let _ = recency::request(index, k, page);
     }
 }
 
-// Writes what the index of capacity k holds into as many places, with 0 in the free ones.
-fn put(places: &mut [u64], index: &[u64], k: usize)
+// Writes what the index of capacity k holds into as many places, with 0 in the free ones, and says how much that is.
+fn put(places: &mut [u64], index: &[u64], k: usize) -> usize
     requires sound { Sound k index.now }
     requires places { length places.old ≡ k }
+    ensures value { result ≡ length (recent.pages index.now) }
     ensures after { places.new ≡ recent.pages index.now ++ replicate (k - length (recent.pages index.now)) 0 }
 {
-    for i in 0..places.len() {
-        places[i] = 0;
-    }
-    let _ = recency::list(index, k, places);
+    places.fill(0);
+    recency::list(index, k, places)
 }
 
 // Writes the cache row of capacity k from its index.
@@ -34,7 +33,7 @@ pub fn close(cache: &mut [u64], index: &[u64], k: usize)
     requires long { 2 + k ≤ length cache.old }
     ensures after { cache.new ≡ row_of k (recent.pages index.now) (drop (2 + k) cache.old) }
 {
-    put(&mut cache[2..2 + k], index, k);
+    let n = put(&mut cache[2..2 + k], index, k);
     cache[0] = k as u64;
-    cache[1] = index[0];
+    cache[1] = n as u64;
 }

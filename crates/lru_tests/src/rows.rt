@@ -1,39 +1,13 @@
 // Rows that are lent in part, so that what is written behind their ends shows.
-use lru_cache::{Refusal, Reply};
+use lru_cache::{Outcome, Refusal};
+use std::alloc::{AllocError, Global};
 
-// Replies as pairs. One that refuses is the refusal's number and its place.
-pub const HERE: (u64, u64) = (10, 0);
+// What stands in a place for an outcome that is not to be touched: no page goes so.
+pub const UNTOUCHED: Outcome = Outcome::Evicted(0xabcd_0000_0000_0000);
 
-pub const FETCHED: (u64, u64) = (11, 0);
-
-// And with the page that went.
-pub const FETCHED_FOR: u64 = 12;
-
-// What stands in a place for a reply that is not to be touched: no cache refuses so.
-pub const UNTOUCHED: Reply = Reply::Refused(Refusal::BadPlaces(77));
-
-pub fn code(reply: Reply) -> (u64, u64) {
-    match reply {
-        Reply::Here => HERE,
-        Reply::Fetched => FETCHED,
-        Reply::FetchedFor(page) => (FETCHED_FOR, page),
-        Reply::Refused(refusal) => (refusal.number(), refusal.place()),
-    }
-}
-
-// Whether the replies are these, and nothing stands behind them.
-pub fn replied(replies: &[Reply], expected: &[(u64, u64)]) -> bool {
-    for i in 0..replies.len() {
-        let reply = if i < expected.len() {
-            expected[i]
-        } else {
-            code(UNTOUCHED)
-        };
-        if code(replies[i]) != reply {
-            return false;
-        }
-    }
-    expected.len() <= replies.len()
+// Whether the outcomes are these, and nothing stands behind them.
+pub fn told(found: &[Outcome], expected: &[Outcome]) -> bool {
+    found.starts_with(expected) && found.iter().skip(expected.len()).all(|&o| o == UNTOUCHED)
 }
 
 // What a row holds at a place where nobody wrote: no page, and at no two places the same.
@@ -43,78 +17,62 @@ fn noise(at: usize) -> u64 {
 
 // Writes a row that begins so and goes on with noise.
 pub fn lay(row: &mut [u64], front: &[u64]) {
-    for i in 0..row.len() {
-        row[i] = if i < front.len() { front[i] } else { noise(i) };
+    for (i, number) in row.iter_mut().enumerate() {
+        *number = front.get(i).copied().unwrap_or(noise(i));
     }
 }
 
-// Whether the row begins so and goes on with noise.
-pub fn lies(row: &[u64], front: &[u64]) -> bool {
-    for i in 0..row.len() {
-        let number = if i < front.len() { front[i] } else { noise(i) };
-        if row[i] != number {
-            return false;
-        }
-    }
-    front.len() <= row.len()
+// How many numbers stand behind a row.
+const BEHIND: usize = 8;
+
+// A row of which all but those are lent.
+#[derive(Drop)]
+pub struct Row {
+    numbers: Vec<u64>,
 }
 
-// Whether the row is noise from this place on.
-pub fn noise_from(row: &[u64], at: usize) -> bool {
-    for i in at..row.len() {
-        if row[i] != noise(i) {
-            return false;
-        }
+impl Row {
+    // A row of so many numbers that begins so and goes on with noise, behind its end too.
+    pub fn new(heap: Global, front: &[u64], len: usize) -> Result<Row, AllocError> {
+        let mut numbers = vec![in heap; 0; len.saturating_add(BEHIND)]?;
+        lay(&mut numbers, front);
+        Ok(Row { numbers })
     }
-    at <= row.len()
+
+    // The numbers that are lent.
+    pub fn lend(&mut self) -> &mut [u64] {
+        let len = self.numbers.len().saturating_sub(BEHIND);
+        &mut self.numbers[..len]
+    }
+
+    // Whether the row begins so and goes on with noise.
+    pub fn holds(&self, front: &[u64]) -> bool {
+        self.numbers.starts_with(front) && self.is_noise_from(front.len())
+    }
+
+    // Whether the row is noise from this place on.
+    pub fn is_noise_from(&self, at: usize) -> bool {
+        at <= self.numbers.len()
+            && self
+                .numbers
+                .iter()
+                .enumerate()
+                .skip(at)
+                .all(|(i, &number)| number == noise(i))
+    }
 }
 
-// Whether two rows are the same.
-pub fn same(a: &[u64], b: &[u64]) -> bool {
-    if a.len() != b.len() {
-        return false;
-    }
-    for i in 0..a.len() {
-        if a[i] != b[i] {
-            return false;
-        }
-    }
-    true
+// A request on two rows.
+pub fn serve(cache: &mut Row, index: &mut Row, page: u64) -> Result<Outcome, Refusal> {
+    lru_cache::serve(cache.lend(), index.lend(), page)
 }
 
-// A request on the front parts of two rows.
-pub fn serve(
-    cache: &mut [u64],
-    cache_len: usize,
-    index: &mut [u64],
-    index_len: usize,
-    page: u64,
-) -> Option<(u64, u64)> {
-    if cache_len > cache.len() || index_len > index.len() {
-        return None;
-    }
-    Some(code(lru_cache::serve(&mut cache[0..cache_len], &mut index[0..index_len], page)))
-}
-
-// A trace on the front parts of two rows: how many were fetched, or the refusal's number and place.
+// A trace on two rows: how many were fetched.
 pub fn play(
-    cache: &mut [u64],
-    cache_len: usize,
-    index: &mut [u64],
-    index_len: usize,
+    cache: &mut Row,
+    index: &mut Row,
     trace: &[u64],
-    replies: &mut [Reply],
-) -> Option<Result<u64, (u64, u64)>> {
-    if cache_len > cache.len() || index_len > index.len() {
-        return None;
-    }
-    match lru_cache::play(
-        &mut cache[0..cache_len],
-        &mut index[0..index_len],
-        trace,
-        replies,
-    ) {
-        Ok(fetches) => Some(Ok(fetches)),
-        Err(refusal) => Some(Err((refusal.number(), refusal.place()))),
-    }
+    found: &mut [Outcome],
+) -> Result<u64, Refusal> {
+    lru_cache::play(cache.lend(), index.lend(), trace, found)
 }

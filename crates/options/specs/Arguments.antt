@@ -1,23 +1,30 @@
 -- What the arguments of a program mean. Assumes nothing: these are definitions.
---     place_of option       where its value stands among all
+--     place_of option       the option's number among all
 --     dashed word           it begins as an option does
 --     flag option           an option that takes no value
---     value_of o i word     the value that the option takes from the word, which is argument i: a number within its limits, a policy's number,
---                           or i where a file is named
---     put g o v             the option has the value v
---     get g o               its value, where it was given
---     step p g i word       one argument more
+--     has g o               the option was given
+--     switched o g          an option that takes no value is given
+--     put o n g             the option has the value n
+--     with_value o i word g with the value that the option takes from the word, which is argument i: a number within its limits, a policy, or
+--                           i where a file is named
+--     step p r i word       one argument more
+--     apart                 the options of which one is in the other's way
 --     settled g             where two options do not go together, that they do not
---     read_from p g i ws    the arguments from i on
+--     read_from p r i ws    the arguments from i on
 --     arguments p ws        all of them
-use Rattle.std.specs.Prelude.{ℕ, ◌+◌, Bool, true, false, cond, ◌&&◌, List, [], ◌∷◌, length, replicate, is_some, Some, None, Ok, Err, codes, Option, Result, ◌==◌, nat_le, slice_index_or, slice_set}
+use Rattle.std.specs.Prelude.{ℕ, ◌+◌, Bool, true, false, cond, ◌&&◌, ◌||◌, List, [], ◌∷◌, length, is_some, Some, None, Ok, Err, codes, Option, Result, ◌==◌, nat_le}
+use Rattle.std.specs.List as list
+use Rattle.std.specs.Option.{option_map, option_and_then}
 use Rattle.std.specs.Str.{bytes_eq}
 use Rattle.text.specs.Texts.{number_from}
+use Rattle.trace.specs.declared.kinds.PolicyKind.{PolicyKind}
+use Rattle.trace.specs.declared.kinds.PolicyKind.TheVariants.{Lru, Fifo, LeastRequested}
 use Rattle.options.specs.Names.{options_of, find}
 use Rattle.options.specs.declared.given.Given.{Given}
 use Rattle.options.specs.declared.names.Program.{Program}
 use Rattle.options.specs.declared.names.Opt.{Opt}
 use Rattle.options.specs.declared.names.Opt.TheVariants.{File, Help, Text, Places, Report, Pack, Unpack, Summary, Svg, Rival, Rounds, Policy}
+use Rattle.options.specs.declared.reading.Reading.{Reading}
 use Rattle.options.specs.declared.values.Wrong.{Wrong}
 use Rattle.options.specs.declared.values.Wrong.TheVariants.{Unknown, Value, Missing, SecondFile, Together}
 
@@ -56,69 +63,145 @@ flag Policy = false
 
 abbrev pub number_within : ℕ → ℕ → List ℕ → Option ℕ
 number_within low high word =
-    cond (length word == 0) None (cond (nat_le low (number_from 0 word) && nat_le (number_from 0 word) high) (Some (number_from 0 word)) None)
+    cond (length word == 0) None (option_and_then (λ n. cond (nat_le low n && nat_le n high) (Some n) None) (number_from 0 word))
 
-abbrev pub policy_of : List ℕ → Option ℕ
+abbrev pub policy_of : List ℕ → Option PolicyKind
 policy_of word =
-    cond (bytes_eq (codes "lru") word) (Some 0) (cond (bytes_eq (codes "fifo") word) (Some 1) (cond (bytes_eq (codes "lfu") word) (Some 2) None))
-
-abbrev pub value_of : Opt → ℕ → List ℕ → Option ℕ
-value_of File i word = None
-value_of Help i word = None
-value_of Text i word = None
-value_of Places i word = number_within 1 4096 word
-value_of Report i word = number_within 1 4096 word
-value_of Pack i word = None
-value_of Unpack i word = None
-value_of Summary i word = None
-value_of Svg i word = cond (dashed word) None (Some i)
-value_of Rival i word = number_within 1 4096 word
-value_of Rounds i word = number_within 0 65535 word
-value_of Policy i word = policy_of word
+    cond (bytes_eq (codes "lru") word) (Some Lru)
+    (cond (bytes_eq (codes "fifo") word) (Some Fifo) (cond (bytes_eq (codes "lfu") word) (Some LeastRequested) None))
 
 abbrev pub none_given : Given
-none_given = record { values = replicate 12 None; awaits = None }
+none_given =
+    record {
+      file = None;
+      help = false;
+      text = false;
+      places = None;
+      report = None;
+      pack = false;
+      unpack = false;
+      summary = false;
+      svg = None;
+      rival = None;
+      rounds = None;
+      policy = None;
+    }
 
-abbrev pub get : Given → Opt → Option ℕ
-get g o = slice_index_or g.values (place_of o) None
+abbrev pub has : Given → Opt → Bool
+has g File = is_some g.file
+has g Help = g.help
+has g Text = g.text
+has g Places = is_some g.places
+has g Report = is_some g.report
+has g Pack = g.pack
+has g Unpack = g.unpack
+has g Summary = g.summary
+has g Svg = is_some g.svg
+has g Rival = is_some g.rival
+has g Rounds = is_some g.rounds
+has g Policy = is_some g.policy
 
-abbrev pub put : Given → Opt → ℕ → Given
-put g o v = record { values = slice_set g.values (place_of o) (Some v); awaits = None }
+abbrev pub same : Opt → Opt → Bool
+same o p = place_of o == place_of p
 
-abbrev pub took : Given → Opt → ℕ → Option ℕ → Result Given Wrong
-took g o i None = Err (Value o i)
-took g o i (Some v) = Ok (put g o v)
+abbrev pub switched : Opt → Given → Given
+switched o g =
+    record {
+      file = g.file;
+      help = same o Help || g.help;
+      text = same o Text || g.text;
+      places = g.places;
+      report = g.report;
+      pack = same o Pack || g.pack;
+      unpack = same o Unpack || g.unpack;
+      summary = same o Summary || g.summary;
+      svg = g.svg;
+      rival = g.rival;
+      rounds = g.rounds;
+      policy = g.policy;
+    }
 
-abbrev pub named : Given → ℕ → List ℕ → Option Opt → Result Given Wrong
-named g i word (Some o) = cond (flag o) (Ok (put g o 1)) (Ok (record { values = g.values; awaits = Some o }))
-named g i word None = cond (dashed word) (Err (Unknown i)) (cond (is_some (get g File)) (Err (SecondFile i)) (Ok (put g File i)))
+abbrev pub put : Opt → ℕ → Given → Given
+put o n g =
+    record {
+      file = cond (same o File) (Some n) g.file;
+      help = g.help;
+      text = g.text;
+      places = cond (same o Places) (Some n) g.places;
+      report = cond (same o Report) (Some n) g.report;
+      pack = g.pack;
+      unpack = g.unpack;
+      summary = g.summary;
+      svg = cond (same o Svg) (Some n) g.svg;
+      rival = cond (same o Rival) (Some n) g.rival;
+      rounds = cond (same o Rounds) (Some n) g.rounds;
+      policy = g.policy;
+    }
 
-abbrev pub step_at : Program → Given → ℕ → List ℕ → Option Opt → Result Given Wrong
-step_at p g i word (Some o) = took g o i (value_of o i word)
-step_at p g i word None = named g i word (find (options_of p) word)
+abbrev pub put_policy : PolicyKind → Given → Given
+put_policy kind g =
+    record {
+      file = g.file;
+      help = g.help;
+      text = g.text;
+      places = g.places;
+      report = g.report;
+      pack = g.pack;
+      unpack = g.unpack;
+      summary = g.summary;
+      svg = g.svg;
+      rival = g.rival;
+      rounds = g.rounds;
+      policy = Some kind;
+    }
 
-abbrev pub step : Program → Given → ℕ → List ℕ → Result Given Wrong
-step p g i word = step_at p g i word g.awaits
+abbrev pub with_value : Opt → ℕ → List ℕ → Given → Option Given
+with_value File i word g = None
+with_value Help i word g = None
+with_value Text i word g = None
+with_value Places i word g = option_map (λ n. put Places n g) (number_within 1 4096 word)
+with_value Report i word g = option_map (λ n. put Report n g) (number_within 1 4096 word)
+with_value Pack i word g = None
+with_value Unpack i word g = None
+with_value Summary i word g = None
+with_value Svg i word g = cond (dashed word) None (Some (put Svg i g))
+with_value Rival i word g = option_map (λ n. put Rival n g) (number_within 1 4096 word)
+with_value Rounds i word g = option_map (λ n. put Rounds n g) (number_within 0 65535 word)
+with_value Policy i word g = option_map (λ kind. put_policy kind g) (policy_of word)
 
-abbrev pub both : Given → Opt → Opt → Bool
-both g a b = is_some (get g a) && is_some (get g b)
+abbrev pub took : Opt → ℕ → Option Given → Result Reading Wrong
+took o i None = Err (Value o i)
+took o i (Some g) = Ok (record { given = g; awaits = None })
+
+abbrev pub named : Reading → ℕ → List ℕ → Option Opt → Result Reading Wrong
+named r i word (Some o) = Ok (cond (flag o) (record { given = switched o r.given; awaits = None }) (record { given = r.given; awaits = Some o }))
+named r i word None =
+    cond (dashed word) (Err (Unknown i))
+    (cond (is_some r.given.file) (Err (SecondFile i)) (Ok (record { given = put File i r.given; awaits = None })))
+
+abbrev pub step_at : Program → Reading → ℕ → List ℕ → Option Opt → Result Reading Wrong
+step_at p r i word (Some o) = took o i (with_value o i word r.given)
+step_at p r i word None = named r i word (find (options_of p) word)
+
+abbrev pub step : Program → Reading → ℕ → List ℕ → Result Reading Wrong
+step p r i word = step_at p r i word r.awaits
+
+abbrev pub both : Given → Opt × Opt → Bool
+both g pair = has g pair.0 && has g pair.1
+
+abbrev pub apart : List (Opt × Opt)
+apart = (Unpack, Pack) ∷ (Unpack, Text) ∷ (Unpack, Summary) ∷ (Unpack, Svg) ∷ (Pack, Summary) ∷ (Pack, Svg) ∷ []
 
 abbrev pub settled : Given → Result Given Wrong
-settled g =
-    cond (both g Unpack Pack) (Err (Together Unpack Pack))
-    (cond (both g Unpack Text) (Err (Together Unpack Text))
-    (cond (both g Unpack Summary) (Err (Together Unpack Summary))
-    (cond (both g Unpack Svg) (Err (Together Unpack Svg))
-    (cond (both g Pack Summary) (Err (Together Pack Summary))
-    (cond (both g Pack Svg) (Err (Together Pack Svg)) (Ok g))))))
+settled g = elim (list.find (both g) apart) [ None ↦ Ok g | Some pair ↦ Err (Together pair.0 pair.1) ]
 
-abbrev pub ended_at : Given → Option Opt → Result Given Wrong
-ended_at g (Some o) = Err (Missing o)
-ended_at g None = settled g
+abbrev pub ended : Reading → Option Opt → Result Given Wrong
+ended r (Some o) = Err (Missing o)
+ended r None = settled r.given
 
-unfoldable pub read_from : Program → Given → ℕ → List (List ℕ) → Result Given Wrong
-read_from p g i [] = ended_at g g.awaits
-read_from p g i (word ∷ words) = elim (step p g i word) [ Ok g' ↦ read_from p g' (i + 1) words | Err e ↦ Err e ]
+unfoldable pub read_from : Program → Reading → ℕ → List (List ℕ) → Result Given Wrong
+read_from p r i [] = ended r r.awaits
+read_from p r i (word ∷ words) = elim (step p r i word) [ Ok r' ↦ read_from p r' (i + 1) words | Err e ↦ Err e ]
 
 abbrev pub arguments : Program → List (List ℕ) → Result Given Wrong
-arguments p words = read_from p none_given 1 words
+arguments p words = read_from p (record { given = none_given; awaits = None }) 1 words

@@ -1,13 +1,19 @@
 -- The options by their names. Assumes nothing: these are definitions.
+--     program_name p      the program as it is called
 --     name_of option      how it is written
 --     options_of p        those that a program takes
 --     find options word   the one that the word names
-use Rattle.std.specs.Prelude.{ℕ, cond, List, [], ◌∷◌, Some, None, codes, Option}
+use Rattle.std.specs.Prelude.{ℕ, List, [], ◌∷◌, codes, Option}
+use Rattle.std.specs.List as list
 use Rattle.std.specs.Str.{bytes_eq}
 use Rattle.options.specs.declared.names.Program.{Program}
 use Rattle.options.specs.declared.names.Program.TheVariants.{Play, Challenge}
 use Rattle.options.specs.declared.names.Opt.{Opt}
 use Rattle.options.specs.declared.names.Opt.TheVariants.{File, Help, Text, Places, Report, Pack, Unpack, Summary, Svg, Rival, Rounds, Policy}
+
+abbrev pub program_name : Program → List ℕ
+program_name Play = codes "play"
+program_name Challenge = codes "challenge"
 
 abbrev pub name_of : Opt → List ℕ
 name_of File = codes "FILE"
@@ -28,5 +34,4 @@ options_of Play = Help ∷ Text ∷ Places ∷ Report ∷ Pack ∷ Unpack ∷ Su
 options_of Challenge = Help ∷ Places ∷ Rival ∷ Rounds ∷ Policy ∷ Summary ∷ []
 
 abbrev pub find : List Opt → List ℕ → Option Opt
-find [] word = None
-find (o ∷ options) word = cond (bytes_eq (name_of o) word) (Some o) (find options word)
+find options word = list.find (λ o. bytes_eq (name_of o) word) options

@@ -1,162 +1,116 @@
 // The options that are given, with their values.
-ghost use Rattle.std.specs.Prelude.{◌≡◌, map, is_some, string_bytes};
-ghost use Rattle.options.specs.Arguments.{place_of, flag, get, put, both, named, step, settled, ended_at, arguments};
-ghost use Rattle.options.specs.Names.{options_of, find};
+ghost use Rattle.std.specs.Prelude.{◌≡◌};
 
-use crate::names::{Opt, Program, option_of};
-use crate::values::{Wrong, dashed, value_of};
+use crate::names::Opt;
+use crate::values::{Wrong, dashed, number_within, policy_of};
+use trace::PolicyKind;
 
-// How many options there are.
-const OPTIONS: usize = 12;
-
-#[derive(Clone, Copy)]
+#[derive(Clone, Copy, Debug, Default, PartialEq, Eq)]
 pub struct Given {
-    // the value of each option that was given; 1 where it takes none, and where a file is named the place of the argument
-    values: [Option<usize>; OPTIONS],
-    // the option whose value comes next
-    awaits: Option<Opt>,
+    // the place of the argument that names what is read: no `&str`, since the clause of `read` says by value what was given
+    pub file: Option<usize>,
+    pub help: bool,
+    pub text: bool,
+    pub places: Option<usize>,
+    pub report: Option<usize>,
+    pub pack: bool,
+    pub unpack: bool,
+    pub summary: bool,
+    // the place of the argument that names the picture, likewise
+    pub svg: Option<usize>,
+    pub rival: Option<usize>,
+    pub rounds: Option<usize>,
+    pub policy: Option<PolicyKind>,
 }
 
-// Where the value of an option stands.
-fn place_of(option: Opt) -> usize
-    ensures value { result ≡ place_of option }
-{
-    match option {
-        Opt::File => 0,
-        Opt::Help => 1,
-        Opt::Text => 2,
-        Opt::Places => 3,
-        Opt::Report => 4,
-        Opt::Pack => 5,
-        Opt::Unpack => 6,
-        Opt::Summary => 7,
-        Opt::Svg => 8,
-        Opt::Rival => 9,
-        Opt::Rounds => 10,
-        Opt::Policy => 11,
-    }
-}
-
-// Whether an option takes no value.
-fn flag(option: Opt) -> bool
-    ensures value { result ≡ flag option }
-{
-    match option {
-        Opt::Places | Opt::Report | Opt::Svg | Opt::Rival | Opt::Rounds | Opt::Policy => false,
-        _ => true,
-    }
-}
+// The options of which one is in the other's way.
+const APART: [(Opt, Opt); 6] = [
+    (Opt::Unpack, Opt::Pack),
+    (Opt::Unpack, Opt::Text),
+    (Opt::Unpack, Opt::Summary),
+    (Opt::Unpack, Opt::Svg),
+    (Opt::Pack, Opt::Summary),
+    (Opt::Pack, Opt::Svg),
+];
 
 impl Given {
-    // The value of an option, where it was given.
-    pub fn get(&self, option: Opt) -> Option<usize>
-        ensures value { result ≡ get self.now option }
-    {
-        let at = place_of(option);
-        self.values[at]
-    }
+    ghost use Rattle.std.specs.List.{find};
+    ghost use Rattle.options.specs.Arguments.{has, switched, with_value, both, apart, settled};
 
-    fn put(mut self, option: Opt, value: usize) -> Given
-        ensures value { result ≡ put self option value }
-    {
-        self.values[place_of(option)] = Some(value);
-        self.awaits = None;
-        self
-    }
-
-    fn both(&self, a: Opt, b: Opt) -> bool
-        ensures value { result ≡ both self.now a b }
-    {
-        self.get(a).is_some() && self.get(b).is_some()
-    }
-
-    // An argument that is no value: an option, or a file.
-    fn named(self, option: Option<Opt>, i: usize, word: &str) -> Result<Given, Wrong>
-        ensures value { result ≡ named self i word.now option }
+    // Whether the option was given.
+    pub fn has(&self, option: Opt) -> bool
+        ensures value { result ≡ has self.now option }
     {
         match option {
-            Some(option) => {
-                if flag(option) {
-                    return Ok(self.put(option, 1));
-                }
-                Ok(Given {
-                    values: self.values,
-                    awaits: Some(option),
-                })
-            }
-            None => {
-                if dashed(word) {
-                    return Err(Wrong::Unknown(i));
-                }
-                if self.get(Opt::File).is_some() {
-                    return Err(Wrong::SecondFile(i));
-                }
-                Ok(self.put(Opt::File, i))
-            }
+            Opt::File => self.file.is_some(),
+            Opt::Help => self.help,
+            Opt::Text => self.text,
+            Opt::Places => self.places.is_some(),
+            Opt::Report => self.report.is_some(),
+            Opt::Pack => self.pack,
+            Opt::Unpack => self.unpack,
+            Opt::Summary => self.summary,
+            Opt::Svg => self.svg.is_some(),
+            Opt::Rival => self.rival.is_some(),
+            Opt::Rounds => self.rounds.is_some(),
+            Opt::Policy => self.policy.is_some(),
         }
     }
 
-    // One argument more.
-    fn step(self, program: Program, i: usize, word: &str) -> Result<Given, Wrong>
-        ensures value { result ≡ step program self i word.now }
+    // With an option that takes no value; one that takes a value changes nothing here.
+    pub(crate) fn switched(self, option: Opt) -> Given
+        ensures value { result ≡ switched option self }
     {
-        match self.awaits {
-            Some(option) => match value_of(option, i, word) {
-                Some(value) => Ok(self.put(option, value)),
-                None => Err(Wrong::Value(option, i)),
+        match option {
+            Opt::Help => Given { help: true, ..self },
+            Opt::Text => Given { text: true, ..self },
+            Opt::Pack => Given { pack: true, ..self },
+            Opt::Unpack => Given {
+                unpack: true,
+                ..self
             },
-            None => self.named(option_of(program, word), i, word),
+            Opt::Summary => Given {
+                summary: true,
+                ..self
+            },
+            _ => self,
         }
+    }
+
+    // With the value that the option takes from the word, which is argument i.
+    pub(crate) fn with_value(self, option: Opt, i: usize, word: &str) -> Option<Given>
+        ensures value { result ≡ with_value option i word.now self }
+    {
+        let mut given = self;
+        match option {
+            Opt::Places => given.places = Some(number_within(1, 4096, word)?),
+            Opt::Report => given.report = Some(number_within(1, 4096, word)?),
+            Opt::Rival => given.rival = Some(number_within(1, 4096, word)?),
+            Opt::Rounds => given.rounds = Some(number_within(0, 65535, word)?),
+            Opt::Policy => given.policy = Some(policy_of(word)?),
+            Opt::Svg if !dashed(word) => given.svg = Some(i),
+            _ => return None,
+        }
+        Some(given)
+    }
+
+    // The first two options that do not go together.
+    fn clash(&self) -> Option<(Opt, Opt)>
+        ensures value { result ≡ find (both self.now) apart }
+    {
+        APART
+            .iter()
+            .copied()
+            .find(|(a, b)| self.has(*a) && self.has(*b))
     }
 
     // What was given, or two options that do not go together.
-    fn settled(self) -> Result<Given, Wrong>
+    pub(crate) fn settled(self) -> Result<Given, Wrong>
         ensures value { result ≡ settled self }
     {
-        if self.both(Opt::Unpack, Opt::Pack) {
-            return Err(Wrong::Together(Opt::Unpack, Opt::Pack));
+        match self.clash() {
+            Some((a, b)) => Err(Wrong::Together(a, b)),
+            None => Ok(self),
         }
-        if self.both(Opt::Unpack, Opt::Text) {
-            return Err(Wrong::Together(Opt::Unpack, Opt::Text));
-        }
-        if self.both(Opt::Unpack, Opt::Summary) {
-            return Err(Wrong::Together(Opt::Unpack, Opt::Summary));
-        }
-        if self.both(Opt::Unpack, Opt::Svg) {
-            return Err(Wrong::Together(Opt::Unpack, Opt::Svg));
-        }
-        if self.both(Opt::Pack, Opt::Summary) {
-            return Err(Wrong::Together(Opt::Pack, Opt::Summary));
-        }
-        if self.both(Opt::Pack, Opt::Svg) {
-            return Err(Wrong::Together(Opt::Pack, Opt::Svg));
-        }
-        Ok(self)
-    }
-
-    fn ended(self) -> Result<Given, Wrong>
-        ensures value { result ≡ ended_at self self.awaits }
-    {
-        match self.awaits {
-            Some(option) => Err(Wrong::Missing(option)),
-            None => self.settled(),
-        }
-    }
-
-    // What the arguments of a program say, or what is wrong with the first that is wrong.
-    pub fn read(program: Program, words: &[String]) -> Result<Given, Wrong>
-        ensures value { result ≡ arguments program (map string_bytes words.now) }
-    {
-        let mut given = Given {
-            values: [None; OPTIONS],
-            awaits: None,
-        };
-        for i in 0..words.len() {
-            match given.step(program, i + 1, words[i].as_str()) {
-                Ok(more) => given = more,
-                Err(wrong) => return Err(wrong),
-            }
-        }
-        given.ended()
     }
 }

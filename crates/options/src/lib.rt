@@ -5,6 +5,7 @@
 
 mod given;
 mod names;
+mod reading;
 mod values;
 
 pub use given::Given;

@@ -1,14 +1,17 @@
-// The names of the options.
-ghost use Rattle.std.specs.Prelude.{◌≡◌};
-ghost use Rattle.options.specs.Names.{options_of, find};
+// The names of the programs and of their options.
+ghost use Rattle.std.specs.Prelude.{◌≡◌, Some};
+ghost use Rattle.options.specs.Names.{program_name, name_of, options_of, find};
+ghost use Rattle.options.specs.Arguments.{flag};
 
-#[derive(Clone, Copy)]
+use std::fmt;
+
+#[derive(Clone, Copy, Debug, PartialEq, Eq)]
 pub enum Program {
     Play,
     Challenge,
 }
 
-#[derive(Clone, Copy)]
+#[derive(Clone, Copy, Debug, PartialEq, Eq)]
 pub enum Opt {
     // the argument that is no option: what is read
     File,
@@ -25,44 +28,96 @@ pub enum Opt {
     Policy,
 }
 
-// The option of that name, of the program that plays a trace.
-fn play_option(word: &str) -> Option<Opt>
-    ensures value { result ≡ find (options_of Program.Play) word.now }
-{
-    match word {
-        "--help" => Some(Opt::Help),
-        "--text" => Some(Opt::Text),
-        "--places" => Some(Opt::Places),
-        "--report" => Some(Opt::Report),
-        "--pack" => Some(Opt::Pack),
-        "--unpack" => Some(Opt::Unpack),
-        "--summary" => Some(Opt::Summary),
-        "--svg" => Some(Opt::Svg),
-        _ => None,
+impl Program {
+    fn name(self) -> &'static str
+        ensures value { result.now ≡ program_name self }
+    {
+        match self {
+            Program::Play => "play",
+            Program::Challenge => "challenge",
+        }
+    }
+
+    // The options that it takes.
+    fn options(self) -> &'static [Opt]
+        ensures value { result.now ≡ options_of self }
+    {
+        match self {
+            Program::Play => &[
+                Opt::Help,
+                Opt::Text,
+                Opt::Places,
+                Opt::Report,
+                Opt::Pack,
+                Opt::Unpack,
+                Opt::Summary,
+                Opt::Svg,
+            ],
+            Program::Challenge => &[
+                Opt::Help,
+                Opt::Places,
+                Opt::Rival,
+                Opt::Rounds,
+                Opt::Policy,
+                Opt::Summary,
+            ],
+        }
+    }
+
+    // The option that the word names.
+    pub(crate) fn option(self, word: &str) -> Option<Opt>
+        ensures value { result ≡ find (options_of self) word.now }
+    {
+        self.options()
+            .iter()
+            .copied()
+            .find(|option| option.name() == word)
     }
 }
 
-// The same of the program that challenges a policy.
-fn challenge_option(word: &str) -> Option<Opt>
-    ensures value { result ≡ find (options_of Program.Challenge) word.now }
-{
-    match word {
-        "--help" => Some(Opt::Help),
-        "--places" => Some(Opt::Places),
-        "--rival" => Some(Opt::Rival),
-        "--rounds" => Some(Opt::Rounds),
-        "--policy" => Some(Opt::Policy),
-        "--summary" => Some(Opt::Summary),
-        _ => None,
+impl Opt {
+    fn name(self) -> &'static str
+        ensures value { result.now ≡ name_of self }
+    {
+        match self {
+            Opt::File => "FILE",
+            Opt::Help => "--help",
+            Opt::Text => "--text",
+            Opt::Places => "--places",
+            Opt::Report => "--report",
+            Opt::Pack => "--pack",
+            Opt::Unpack => "--unpack",
+            Opt::Summary => "--summary",
+            Opt::Svg => "--svg",
+            Opt::Rival => "--rival",
+            Opt::Rounds => "--rounds",
+            Opt::Policy => "--policy",
+        }
+    }
+
+    // Whether it takes no value.
+    pub(crate) fn is_flag(self) -> bool
+        ensures value { result ≡ flag self }
+    {
+        !matches!(
+            self,
+            Opt::Places | Opt::Report | Opt::Svg | Opt::Rival | Opt::Rounds | Opt::Policy
+        )
     }
 }
 
-// The option of a program that the word names.
-pub(crate) fn option_of(program: Program, word: &str) -> Option<Opt>
-    ensures value { result ≡ find (options_of program) word.now }
-{
-    match program {
-        Program::Play => play_option(word),
-        Program::Challenge => challenge_option(word),
+impl fmt::Display for Program {
+    ghost output = { λ p. Some (program_name p) };
+
+    fn fmt<W: fmt::Write>(&self, f: &mut fmt::Formatter<W>) -> fmt::Result {
+        f.write_str(self.name())
+    }
+}
+
+impl fmt::Display for Opt {
+    ghost output = { λ o. Some (name_of o) };
+
+    fn fmt<W: fmt::Write>(&self, f: &mut fmt::Formatter<W>) -> fmt::Result {
+        f.write_str(self.name())
     }
 }

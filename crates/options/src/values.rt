@@ -1,11 +1,13 @@
 // What an option takes for its value.
 ghost use Rattle.std.specs.Prelude.{◌≡◌};
-ghost use Rattle.options.specs.Arguments.{dashed, number_within, policy_of, value_of};
+ghost use Rattle.options.specs.Arguments.{dashed, number_within, policy_of};
 
 use crate::names::Opt;
+use trace::PolicyKind;
 
-// What is wrong with the arguments: with the one at a place, or with an option.
-#[derive(Clone, Copy)]
+// What is wrong with the arguments: with the one at a place, or with an option. It takes the program and the argument at fault to tell it, so
+// `wrongs::Message` is what is displayed.
+#[derive(Clone, Copy, Debug, PartialEq, Eq)]
 pub enum Wrong {
     // an option that there is not
     Unknown(usize),
@@ -23,51 +25,29 @@ pub enum Wrong {
 pub(crate) fn dashed(word: &str) -> bool
     ensures value { result ≡ dashed word.now }
 {
-    match word.as_bytes() {
-        [a, b, ..] => *a == b'-' && *b == b'-',
-        _ => false,
-    }
+    word.as_bytes().starts_with(b"--")
 }
 
-fn number_within(low: u64, high: u64, word: &str) -> Option<usize>
+// The number that the word is, where it is one of these. Two numbers and no `low..=high`: the clause would have to say that the range is not used
+// up.
+pub(crate) fn number_within(low: u64, high: u64, word: &str) -> Option<usize>
     ensures value { result ≡ number_within low high word.now }
 {
     if word.is_empty() {
         return None;
     }
-    let number = text::number(word.as_bytes());
-    if number >= low && number <= high {
-        Some(number as usize)
-    } else {
-        None
-    }
+    let number = text::number(word.as_bytes())?;
+    (low..=high).contains(&number).then_some(number as usize)
 }
 
-fn policy_of(word: &str) -> Option<usize>
+// The policy that the word names.
+pub(crate) fn policy_of(word: &str) -> Option<PolicyKind>
     ensures value { result ≡ policy_of word.now }
 {
     match word {
-        "lru" => Some(0),
-        "fifo" => Some(1),
-        "lfu" => Some(2),
-        _ => None,
-    }
-}
-
-// The value that the option takes from the word, which is argument i.
-pub(crate) fn value_of(option: Opt, i: usize, word: &str) -> Option<usize>
-    ensures value { result ≡ value_of option i word.now }
-{
-    match option {
-        Opt::Places | Opt::Report | Opt::Rival => number_within(1, 4096, word),
-        Opt::Rounds => number_within(0, 65535, word),
-        Opt::Policy => policy_of(word),
-        Opt::Svg => {
-            if dashed(word) {
-                return None;
-            }
-            Some(i)
-        }
+        "lru" => Some(PolicyKind::Lru),
+        "fifo" => Some(PolicyKind::Fifo),
+        "lfu" => Some(PolicyKind::LeastRequested),
         _ => None,
     }
 }

@@ -1,9 +1,10 @@
 -- Where numbers stand, and that it is on the picture. Assumes nothing.
 --     height_fits     no height is above the picture
 --     top_is          the number at the top, as it is worked out
---     topped          and its bounds
 --     number_fits     a number on an axis
-use Rattle.std.proofs.Common.{◌≡◌, ℕ, ◌+◌, ◌-◌, ◌*◌, ◌/◌, ◌%◌, ◌<◌, ◌≤◌, max, mod-lt, mul_comm, mul-le-mul, div-le_self, arith}
+use Rattle.std.proofs.Common.{◌≡◌, ℕ, suc, ◌+◌, ◌-◌, ◌*◌, ◌/◌, ◌%◌, ◌<◌, ◌≤◌, max, mod-lt, mul_comm, mul-le-mul, div-le_self, ⊎_elim, ◌∙◌, arith}
+use Rattle.std.proofs.Math.Nat.{div-add-mod, mod_self, mod-eq_of_lt, mul-add-mod_self_left, mul-suc}
+use Rattle.std.proofs.lemmas.Bool.{cases_lt}
 use native.Mathlib.Nat.{div-le_of_le-mul}
 use Rattle.picture.specs.Scaled.{step, top}
 
@@ -13,18 +14,28 @@ height_fits t n le =
     let most : 330 * n / t ≤ 330 = div-le_of_le-mul t (rw (mul_comm t 330) less) in
     omega arith
 
-pub top_is : (n s a : ℕ) → s ≡ step n → a ≡ max n 1 → (a + (s - 1)) - (a + (s - 1)) % s ≡ top n
+-- std's next multiple, as the definition has it
+next_is : (x y : ℕ) → 1 ≤ y → x + (y - x % y) % y ≡ (x + (y - 1)) - (x + (y - 1)) % y
+next_is x y some =
+    let whole : y * (x / y) + x % y ≡ x = div-add-mod x y in
+    let rest : x % y < y = mod-lt _ some in
+    ⊎_elim
+    (λ (h : x % y < 1).
+    let sum : x + (y - 1) ≡ y * (x / y) + (y - 1) = omega arith in
+    let left : (x + (y - 1)) % y ≡ y - 1 = rw (sum, mul-add-mod_self_left y (x / y) (y - 1)) (mod-eq_of_lt (omega arith)) in
+    let none : y - x % y ≡ y = omega arith in
+    rw (none, mod_self y) (omega arith))
+    (λ (h : 1 ≤ x % y).
+    let next : y * suc (x / y) ≡ y * (x / y) + y = mul-suc y (x / y) in
+    let sum : x + (y - 1) ≡ y * suc (x / y) + (x % y - 1) = omega arith in
+    let left : (x + (y - 1)) % y ≡ x % y - 1 = rw (sum, mul-add-mod_self_left y (suc (x / y)) (x % y - 1)) (mod-eq_of_lt (omega arith)) in
+    let right : (y - x % y) % y ≡ y - x % y = mod-eq_of_lt (omega arith) in
+    omega arith)
+    (cases_lt (x % y) 1)
+
+pub top_is : (n s a : ℕ) → 1 ≤ s → s ≡ step n → a ≡ max n 1 → a + (s - a % s) % s ≡ top n
 unfolding top
-top_is n s a apart some = rw (apart, some)
-
-pub record Topped (t : ℕ) : Type 0 where
-  pub low : 1 ≤ t
-  pub high : t ≤ 5096
-
-pub topped : (s a : ℕ) → 1 ≤ a → a ≤ 4096 → 1 ≤ s → s ≤ 1000 → Topped ((a + (s - 1)) - (a + (s - 1)) % s)
-topped s a some small low high =
-    let rest : (a + (s - 1)) % s < s = mod-lt _ (omega arith) in
-    record { low = omega arith; high = omega arith }
+top_is n s a low apart some = next_is a s low ∙ rw (apart, some)
 
 pub number_fits : (i s t : ℕ) → i ≤ t / s → t ≤ 5096 → s ≤ 1000 → i * s ≤ 5096000
 number_fits i s t le high few =

@@ -1,39 +1,38 @@
 // The numbers on the two axes.
-ghost use Rattle.std.specs.Prelude.{◌≡◌, ◌+◌, ◌/◌, ◌≤◌, true, ◌++◌, is_ok, string_bytes};
+ghost use Rattle.std.specs.Prelude.{◌≡◌, ◌+◌, ◌/◌, true, ◌++◌, is_ok, string_bytes};
 ghost use Rattle.picture.specs.Pictured.{told, fetches_piece, places_piece};
+ghost use Rattle.picture.specs.Scaled.{step};
 
-use crate::scales::{height, middle};
+use crate::scales::{Scale, step};
 use crate::shapes::Shape;
 use std::fmt;
 
-// Adds the numbers of fetches from 0 to the top, so far apart.
-pub(crate) fn tell_fetches(top: u64, apart: u64, text: &mut String) -> fmt::Result
-    requires low { 1 ≤ top }
-    requires high { top ≤ 5096 }
-    requires some { 1 ≤ apart }
-    requires few { apart ≤ 1000 }
-    ensures lines { is_ok result ≡ true → string_bytes text.new ≡ string_bytes text.old ++ told (fetches_piece top apart) 0 (top / apart + 1) }
-{
-    for i in 0..top / apart + 1 {
-        let n = i * apart;
-        let shape = Shape::Fetches(height(top, n), n);
-        write!(text, "{shape}")?;
+impl Scale {
+    // Adds the numbers of fetches from 0 to the top.
+    pub(crate) fn tell_fetches(self, text: &mut String) -> fmt::Result
+        ensures lines { is_ok result ≡ true → string_bytes text.new ≡ string_bytes text.old ++ told (fetches_piece self.top self.apart) 0 (self.top / self.apart + 1) }
+    {
+        // i counts the numbers on the axis, and is no index.
+        for i in 0..self.top / self.apart + 1 {
+            let n = i * self.apart;
+            let y = self.height(n);
+            write!(text, "{}", Shape::Fetches { y, n })?;
+        }
+        Ok(())
     }
-    Ok(())
-}
 
-// Adds the numbers of places up to m, at most ten of them.
-pub(crate) fn tell_places(m: u64, apart: u64, text: &mut String) -> fmt::Result
-    requires low { 1 ≤ m }
-    requires high { m ≤ 4096 }
-    requires some { 1 ≤ apart }
-    requires few { apart ≤ 1000 }
-    ensures lines { is_ok result ≡ true → string_bytes text.new ≡ string_bytes text.old ++ told (places_piece m apart) 0 (m / apart) }
-{
-    for i in 0..m / apart {
-        let c = i * apart + apart;
-        let shape = Shape::Places(middle(m, c), c);
-        write!(text, "{shape}")?;
+    // Adds the numbers of places, at most ten of them.
+    pub(crate) fn tell_places(self, text: &mut String) -> fmt::Result
+        ensures lines { is_ok result ≡ true →
+            let s = step ((self.places + 1) / 2) in string_bytes text.new ≡ string_bytes text.old ++ told (places_piece self.places s) 0 (self.places / s) }
+    {
+        let apart = step(self.places.div_ceil(2));
+        // As above, i is no index.
+        for i in 0..self.places / apart {
+            let c = i * apart + apart;
+            let x = self.middle(c);
+            write!(text, "{}", Shape::Places { x, c })?;
+        }
+        Ok(())
     }
-    Ok(())
 }

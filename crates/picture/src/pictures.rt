@@ -1,48 +1,46 @@
 // The whole picture.
-ghost use Rattle.std.specs.Prelude.{◌≡◌, ◌*◌, ◌≤◌, true, [], ◌++◌, length, is_ok, IfOk, if◌then◌else◌, string_bytes};
-ghost use Rattle.picture.specs.Pictured.{frame, picture, drawable};
+ghost use Rattle.std.specs.Prelude.{◌≡◌, true, [], ◌++◌, length, is_ok, IfOk, if◌then◌else◌, string_bytes};
+ghost use Rattle.picture.specs.Pictured.{drawn, picture, drawable};
 
-use crate::axes::{tell_fetches, tell_places};
-use crate::lines::tell_lines;
-use crate::marks::tell_mark;
-use crate::scales::{step, top};
+use crate::scales::Scale;
 use crate::shapes::Shape;
 use std::fmt;
 
 // The most places that a report has.
 const MAX: usize = 4096;
 
-// Adds the beginning of the file and both axes.
-fn tell_frame(most: u64, m: u64, text: &mut String) -> fmt::Result
-    requires small { most ≤ 4096 }
-    requires some { 1 ≤ m }
-    requires few { m ≤ 4096 }
-    ensures lines { is_ok result ≡ true → string_bytes text.new ≡ string_bytes text.old ++ frame most m }
-{
-    let head = Shape::Head;
-    write!(text, "{head}")?;
-    tell_fetches(top(most), step(most), text)?;
-    tell_places(m, step((m + 1) / 2), text)?;
-    Ok(())
+// A report and where it stands.
+#[derive(Clone, Copy, Debug)]
+pub(crate) struct Picture<'a> {
+    // what LRU fetches with 1, 2 .. places, and the fewest that anybody could
+    pub(crate) house: &'a [u64],
+    pub(crate) known: &'a [u64],
+    pub(crate) scale: Scale,
+    ghost house_long: { length house.now ≡ scale.places },
+    ghost known_long: { length known.now ≡ scale.places },
 }
 
-// Adds the picture of a report's row.
-fn tell_picture(row: &[u64], m: usize, k: usize, text: &mut String) -> fmt::Result
-    requires some { 1 ≤ m }
-    requires few { m ≤ 4096 }
-    requires long { 2 * m ≤ length row.now }
-    ensures lines { is_ok result ≡ true → string_bytes text.new ≡ string_bytes text.old ++ picture row.now m k }
-{
-    let most = row[0].min(MAX as u64);
-    let top = top(most);
-    tell_frame(most, m as u64, text)?;
-    tell_lines(row, m, top, text)?;
-    tell_mark(row, m, k, top, text)?;
-    let legend = Shape::Legend;
-    write!(text, "{legend}")?;
-    let tail = Shape::Tail;
-    write!(text, "{tail}")?;
-    Ok(())
+impl Picture<'_> {
+    // Adds the picture, with a mark at k places.
+    fn tell(&self, k: usize, text: &mut String) -> fmt::Result
+        ensures lines { is_ok result ≡ true → string_bytes text.new ≡ string_bytes text.old ++ drawn self.now.house.now self.now.known.now self.now.scale.top self.now.scale.apart self.now.scale.places k }
+    {
+        let scale = self.scale;
+        write!(text, "{}", Shape::Head)?;
+        scale.tell_fetches(text)?;
+        scale.tell_places(text)?;
+        let house = Shape::House {
+            y: scale.height(self.house[0]),
+        };
+        scale.tell_line(house, self.house, text)?;
+        let known = Shape::Known {
+            y: scale.height(self.known[0]),
+        };
+        scale.tell_line(known, self.known, text)?;
+        self.tell_mark(k, text)?;
+        write!(text, "{}{}", Shape::Legend, Shape::Tail)?;
+        Ok(())
+    }
 }
 
 // Adds the picture of a report's row for m capacities, with a mark at k places, and answers true. Where there is no such row, it adds nothing and
@@ -51,15 +49,14 @@ pub fn draw(row: &[u64], m: usize, k: usize, text: &mut String) -> Result<bool, 
     ensures drawn { IfOk result (λ b. b ≡ drawable row.now m) }
     ensures lines { is_ok result ≡ true → string_bytes text.new ≡ string_bytes text.old ++ (if drawable row.now m then picture row.now m k else []) }
 {
-    if m == 0 {
+    if m == 0 || m > MAX || row.len() < 2 * m {
         return Ok(false);
     }
-    if m > MAX {
-        return Ok(false);
-    }
-    if row.len() < 2 * m {
-        return Ok(false);
-    }
-    tell_picture(row, m, k, text)?;
+    let picture = Picture {
+        house: &row[..m],
+        known: &row[m..2 * m],
+        scale: Scale::new(row[0].min(MAX as u64), m as u64),
+    };
+    picture.tell(k, text)?;
     Ok(true)
 }

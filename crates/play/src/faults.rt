@@ -1,12 +1,11 @@
 // Why a trace can't be played to its end.
-use std::io;
+use closing::Undrawn;
+use console::Asked;
+use std::alloc::AllocError;
+use std::{fmt, io};
 
-#[derive(Clone, Copy)]
+#[derive(Drop)]
 pub(crate) enum Fault {
-    // the arguments are no text
-    Arguments(io::Error),
-    // the arguments are wrong, which is told already
-    Wrong,
     // the input can't be opened or read
     Input(io::Error),
     // the lines can't be written
@@ -15,9 +14,9 @@ pub(crate) enum Fault {
     InHeader(usize),
     // the input ends inside a request, after so many whole ones
     InRequest(u64),
-    // a word of the text is no page; the text says which
-    Word,
-    // the picture can't be written; the text says to which file
+    // a word of the text is no page, of which this is said
+    Word(String),
+    // the picture can't be written
     Picture(io::Error),
     // there is no report to draw
     NoPicture,
@@ -25,22 +24,60 @@ pub(crate) enum Fault {
     Memory,
 }
 
-// Says on standard error what the fault is, in an input of that name.
-pub(crate) fn tell(rt: &HostRuntime, name: &str, text: &String, fault: Fault) -> io::Result<()> {
-    match fault {
-        Fault::Arguments(e) => eprintln!(rt; "play: cannot read the arguments: {e}"),
-        Fault::Wrong => Ok(()),
-        Fault::Input(e) => eprintln!(rt; "play: cannot read {name}: {e}"),
-        Fault::Output(e) => eprintln!(rt; "play: cannot write to standard output: {e}"),
-        Fault::InHeader(n) => eprintln!(rt;
-            "play: {name} ends inside its header, after {n} of 4 bytes"
-        ),
-        Fault::InRequest(n) => eprintln!(rt;
-            "play: {name} ends inside a request, after request {n}"
-        ),
-        Fault::Word => eprintln!(rt; "{name}:{text}"),
-        Fault::Picture(e) => eprintln!(rt; "play: cannot write {text}: {e}"),
-        Fault::NoPicture => eprintln!(rt; "play: there is no report to draw"),
-        Fault::Memory => eprintln!(rt; "play: out of memory"),
+impl From<fmt::Error> for Fault {
+    fn from(_error: fmt::Error) -> Fault {
+        Fault::Memory
     }
+}
+
+impl From<AllocError> for Fault {
+    fn from(_error: AllocError) -> Fault {
+        Fault::Memory
+    }
+}
+
+impl From<Undrawn> for Fault {
+    fn from(undrawn: Undrawn) -> Fault {
+        match undrawn {
+            Undrawn::Refused(_) => Fault::NoPicture,
+            Undrawn::Memory => Fault::Memory,
+        }
+    }
+}
+
+// A fault, as it is told to whoever asked.
+#[derive(Drop)]
+pub(crate) struct Told<'a> {
+    pub(crate) asked: &'a Asked,
+    pub(crate) fault: Fault,
+}
+
+impl fmt::Display for Told<'_> {
+    fn fmt<W: fmt::Write>(&self, f: &mut fmt::Formatter<W>) -> fmt::Result {
+        let name = self.asked.file().unwrap_or("standard input");
+        match &self.fault {
+            Fault::Input(e) => write!(f, "play: cannot read {name}: {e}"),
+            Fault::Output(e) => write!(f, "play: cannot write to standard output: {e}"),
+            Fault::InHeader(n) => write!(
+                f,
+                "play: {name} ends inside its header, after {n} of 4 bytes"
+            ),
+            Fault::InRequest(n) => write!(
+                f,
+                "play: {name} ends inside a request, after request {n}"
+            ),
+            Fault::Word(said) => write!(f, "{name}:{said}"),
+            Fault::Picture(e) => {
+                let path = picture_of(self.asked).unwrap_or("");
+                write!(f, "play: cannot write {path}: {e}")
+            }
+            Fault::NoPicture => write!(f, "play: there is no report to draw"),
+            Fault::Memory => write!(f, "play: out of memory"),
+        }
+    }
+}
+
+// The file that the picture of the report goes to, where one is asked for.
+pub(crate) fn picture_of(asked: &Asked) -> Option<&str> {
+    asked.given.svg.and_then(|place| asked.word(place))
 }

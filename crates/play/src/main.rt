@@ -2,134 +2,116 @@
 // or back.
 #![tactic(auto)]
 
-mod closes;
 mod faults;
 mod help;
 mod pieces;
+mod steps;
 mod texts;
-mod unpacks;
 
-use closes::{draw, report, sum_up};
+use console::Asked;
 use convert::header_with;
-use day::{Day, PIECE};
-use faults::{Fault, tell};
+use faults::{Fault, Told, picture_of};
 use help::HELP;
-use options::{Given, Opt, Program};
-use pieces::{play_all, read_head};
-use std::io::Read;
+use options::{Given, Program};
+use pieces::{Pieces, read_head};
+use std::fs;
+use std::io::{Read, Write};
 use std::process::ExitCode;
-use std::{fs, io};
-use texts::{pack_all, play_text};
-use unpacks::unpack_all;
+use steps::{Packing, Playing, Unpacking};
+use texts::Texts;
+use trace::Header;
 
 fn main(rt: HostRuntime) -> ExitCode {
-    match play(&rt) {
-        Ok(()) => ExitCode::SUCCESS,
-        Err(_) => ExitCode::FAILURE,
-    }
-}
-
-// What ends badly was told already, so that main has only to say that it did.
-fn play(rt: &HostRuntime) -> Result<(), Fault> {
-    match console::arguments(rt) {
-        Ok(words) => run(rt, words.as_slice()),
-        Err(e) => {
-            let fault = Fault::Arguments(e);
-            let _ = tell(rt, "", &String::new(rt.alloc()), fault);
-            Err(fault)
-        }
-    }
-}
-
-fn run(rt: &HostRuntime, words: &[String]) -> Result<(), Fault> {
-    match Given::read(Program::Play, words) {
-        Ok(given) => start(rt, &given, words),
-        Err(wrong) => {
-            let _ = console::tell_wrong(rt, Program::Play, wrong, words);
-            Err(Fault::Wrong)
-        }
-    }
-}
-
-fn said(res: io::Result<()>) -> Result<(), Fault> {
-    match res {
-        Ok(()) => Ok(()),
-        Err(e) => Err(Fault::Output(e)),
-    }
-}
-
-// Does what is asked with the input that is named, and tells a fault.
-fn start(rt: &HostRuntime, given: &Given, words: &[String]) -> Result<(), Fault> {
-    let mut text = String::new(rt.alloc());
-    let name = console::file_named(given, words);
-    let result = if given.get(Opt::Help).is_some() {
-        said(rt.print(HELP))
-    } else {
-        match name {
-            Some(path) => work_on_file(rt, given, words, path, &mut text),
-            None => work(rt, given, words, &mut rt.stdin(), &mut text),
-        }
+    let Some(asked) = console::ask(&rt, Program::Play) else {
+        return ExitCode::FAILURE;
     };
-    if let Err(fault) = result {
-        let _ = tell(rt, name.unwrap_or("standard input"), &text, fault);
-    }
-    result
+    let ended = play(&rt, &asked).map_err(|fault| Told {
+        asked: &asked,
+        fault,
+    });
+    console::status(&rt, ended)
 }
 
-fn work_on_file(
+// Does what is asked with the input that is named.
+fn play(rt: &HostRuntime, asked: &Asked) -> Result<(), Fault> {
+    if asked.given.help {
+        return rt.print(HELP).map_err(Fault::Output);
+    }
+    match asked.file() {
+        Some(path) => work(rt, asked, &mut fs::open(rt, path).map_err(Fault::Input)?),
+        None => work(rt, asked, &mut rt.stdin()),
+    }
+}
+
+// What is done with a trace.
+#[derive(Clone, Copy)]
+enum Task {
+    // it is in bytes, and played
+    Play,
+    // it is text, and played
+    PlayText,
+    // it is text, and turned into bytes
+    Pack,
+    // it is in bytes, and turned into text
+    Unpack,
+}
+
+impl From<Given> for Task {
+    fn from(given: Given) -> Task {
+        if given.pack {
+            Task::Pack
+        } else if given.unpack {
+            Task::Unpack
+        } else if given.text {
+            Task::PlayText
+        } else {
+            Task::Play
+        }
+    }
+}
+
+fn work<R: Read>(rt: &HostRuntime, asked: &Asked, input: &mut R) -> Result<(), Fault> {
+    let given = asked.given;
+    let heap = rt.alloc();
+    let task = Task::from(given);
+    let own = match task {
+        Task::Play | Task::Unpack => Some(read_head(input)?),
+        Task::PlayText | Task::Pack => None,
+    };
+    let header = header_with(given.places, given.report, own);
+    match task {
+        Task::Play => {
+            let mut day = Playing::new(heap, rt.stdout(), header, given.summary);
+            Pieces::new().take_all(input, &mut day)?;
+            close(rt, asked, header, &mut day)
+        }
+        Task::PlayText => {
+            let mut day = Playing::new(heap, rt.stdout(), header, given.summary);
+            Texts::new(heap).take_all(input, &mut day)?;
+            close(rt, asked, header, &mut day)
+        }
+        Task::Pack => Texts::new(heap).take_all(input, &mut Packing::begin(rt.stdout(), header)?),
+        Task::Unpack => {
+            let mut lines = Unpacking::begin(heap, rt.stdout(), header)?;
+            Pieces::new().take_all(input, &mut lines)?;
+            lines.flush()
+        }
+    }
+}
+
+// Says what is to be said of a day when the input has ended.
+fn close<W: Write>(
     rt: &HostRuntime,
-    given: &Given,
-    words: &[String],
-    path: &str,
-    text: &mut String,
+    asked: &Asked,
+    header: Header,
+    day: &mut Playing<W>,
 ) -> Result<(), Fault> {
-    match fs::open(rt, path) {
-        Ok(mut file) => work(rt, given, words, &mut file, text),
-        Err(e) => Err(Fault::Input(e)),
+    if asked.given.summary {
+        day.sum_up(header.capacity)?;
     }
-}
-
-fn work<R: Read>(
-    rt: &HostRuntime,
-    given: &Given,
-    words: &[String],
-    input: &mut R,
-    text: &mut String,
-) -> Result<(), Fault> {
-    let out = &mut rt.stdout();
-    let mut buf = [0u8; PIECE];
-    let text_in = given.get(Opt::Text).is_some() || given.get(Opt::Pack).is_some();
-    let own = if text_in {
-        None
-    } else {
-        Some(read_head(input)?)
-    };
-    let header = header_with(given.get(Opt::Places), given.get(Opt::Report), own);
-    if given.get(Opt::Pack).is_some() {
-        return pack_all(input, out, header, &mut buf, text);
+    day.report()?;
+    match picture_of(asked) {
+        Some(path) => day.draw(rt, path, header.capacity),
+        None => Ok(()),
     }
-    if given.get(Opt::Unpack).is_some() {
-        return unpack_all(input, out, header, &mut buf, text);
-    }
-    let mut day = Day::new(header);
-    let quiet = given.get(Opt::Summary).is_some();
-    if text_in {
-        play_text(input, out, &mut day, &mut buf, quiet, text)?;
-    } else {
-        play_all(input, out, &mut day, &mut buf, quiet, text)?;
-    }
-    if quiet {
-        sum_up(out, &day, header.capacity, text)?;
-    }
-    report(out, &day, text)?;
-    let Some(place) = given.get(Opt::Svg) else {
-        return Ok(());
-    };
-    draw(
-        rt,
-        console::word_at(words, place).unwrap_or(""),
-        &day,
-        header.capacity,
-        text,
-    )
 }

@@ -1,87 +1,67 @@
-// A trace as text: played, or turned into bytes.
-ghost use Rattle.std.specs.Prelude.{◌≡◌, ◌≤◌, length, IfOk};
-ghost use Rattle.day.specs.Days.{Prepared};
+// A trace as text, read piece by piece.
+ghost use Rattle.std.specs.Prelude.{◌≤◌, length};
 
 use crate::faults::Fault;
-use crate::pieces::{play_piece, read_some, written};
-use day::Day;
-use std::io::{Read, Write};
+use crate::pieces::read_some;
+use crate::steps::Step;
+use day::PIECE;
+use std::alloc::Global;
+use std::io::Read;
 use text::Reader;
-use trace::Header;
 
 // How much of a text is read at once: each byte can end a page, which has four.
 const TEXT: usize = 16384;
 
-// A piece of the text in bytes: how many, and whether the text has ended. The end is read as a line break, since the last line may lack it.
-fn next_pages<R: Read>(
-    input: &mut R,
-    reader: &mut Reader,
-    buf: &mut [u8],
-) -> Result<(usize, bool), Fault>
-    ensures bound { IfOk result (λ p. p.0 ≤ length buf.old) }
-{
-    let mut piece = [0u8; TEXT];
-    let n = read_some(input, &mut piece)?;
-    if n == 0 {
-        return Ok((convert::pack_text(reader, b"\n", buf), true));
-    }
-    Ok((convert::pack_text(reader, &piece[0..n], buf), false))
+// What is read of a trace as text.
+#[derive(Drop)]
+pub(crate) struct Texts {
+    heap: Global,
+    reader: Reader,
+    // the pages of a piece in bytes
+    buf: [u8; PIECE],
 }
 
-// Where a word is no page, that is the fault, and the text says which.
-fn checked(reader: &Reader, text: &mut String) -> Result<(), Fault> {
-    if !reader.is_bad() {
-        return Ok(());
-    }
-    text.clear();
-    match reader.tell_bad(text) {
-        Ok(()) => Err(Fault::Word),
-        Err(_) => Err(Fault::Memory),
-    }
-}
-
-// Plays the pages that a text names. Nothing says that an input ends, so the turns are counted.
-pub(crate) fn play_text<R: Read, W: Write>(
-    input: &mut R,
-    out: &mut W,
-    day: &mut Day,
-    buf: &mut [u8],
-    quiet: bool,
-    text: &mut String,
-) -> Result<(), Fault>
-    requires ready { Prepared day.old }
-    requires room { length buf.old ≡ 65536 }
-    ensures ready { Prepared day.new }
-{
-    let mut reader = Reader::new();
-    for _ in 0..u64::MAX {
-        let (n, ended) = next_pages(input, &mut reader, buf)?;
-        play_piece(out, day, &buf[0..n], quiet, text)?;
-        checked(&reader, text)?;
-        if ended {
-            break;
+impl Texts {
+    pub(crate) fn new(heap: Global) -> Texts {
+        Texts {
+            heap,
+            reader: Reader::new(),
+            buf: [0; PIECE],
         }
     }
-    Ok(())
-}
 
-// Writes the pages that a text names in bytes, behind a header.
-pub(crate) fn pack_all<R: Read, W: Write>(
-    input: &mut R,
-    out: &mut W,
-    header: Header,
-    buf: &mut [u8],
-    text: &mut String,
-) -> Result<(), Fault> {
-    written(out, &convert::pack_header(header))?;
-    let mut reader = Reader::new();
-    for _ in 0..u64::MAX {
-        let (n, ended) = next_pages(input, &mut reader, buf)?;
-        written(out, &buf[0..n])?;
-        checked(&reader, text)?;
-        if ended {
-            break;
+    // A word that is no page is a fault.
+    fn checked(&self) -> Result<(), Fault> {
+        if !self.reader.is_bad() {
+            return Ok(());
         }
+        let mut said = String::new(self.heap);
+        self.reader.tell_bad(&mut said)?;
+        Err(Fault::Word(said))
     }
-    Ok(())
+
+    // Takes the pages that a piece of the text names.
+    fn take_in<S: Step>(&mut self, piece: &[u8], step: &mut S) -> Result<(), Fault> {
+        let n = convert::pack_text(&mut self.reader, piece, &mut self.buf);
+        step.take(&self.buf[..n])?;
+        self.checked()
+    }
+
+    // Takes the pages up to the end of the input, which is read as a line break, since the last line may lack it. Nothing says that an input
+    // ends, so the turns are counted.
+    pub(crate) fn take_all<R: Read, S: Step>(
+        &mut self,
+        input: &mut R,
+        step: &mut S,
+    ) -> Result<(), Fault> {
+        let mut piece = [0u8; TEXT];
+        for _ in 0..u64::MAX {
+            let n = read_some(input, &mut piece)?;
+            if n == 0 {
+                return self.take_in(b"\n", step);
+            }
+            self.take_in(&piece[..n], step)?;
+        }
+        Ok(())
+    }
 }

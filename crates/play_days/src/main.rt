@@ -1,7 +1,9 @@
 // What is said of days that play is given: the worked one, and those at the edges.
 #![tactic(auto)]
 
-use day::Day;
+ghost use Rattle.std.specs.Prelude.{◌<◌};
+
+use day::{Day, PIECE};
 use std::{fmt, io};
 
 fn main(rt: HostRuntime) -> io::Result<()> {
@@ -17,7 +19,7 @@ fn tell(bytes: &[u8], text: &mut String) -> fmt::Result {
     };
     let mut day = Day::new(header);
     let requests = &bytes[4..];
-    if requests.len() > 65536 {
+    if requests.len() > PIECE {
         return Err(fmt::Error);
     }
     let half = requests.len() / 8 * 4;
@@ -34,19 +36,17 @@ fn show(rt: &HostRuntime, name: &str, bytes: &[u8]) -> io::Result<()> {
     print!(rt; "{name}:\n{text}")
 }
 
-// A day with requests in turn for the pages below a bound. Only how many lines there are, and the last of them.
-fn show_end(rt: &HostRuntime, name: &str, bytes: &mut [u8], pages: u8) -> io::Result<()> {
-    bytes.fill(0);
-    if bytes.len() < 4 {
-        return Ok(());
-    }
-    bytes[0] = 2;
-    bytes[2] = 1;
-    for i in 1..bytes.len() / 4 {
-        bytes[4 * i] = (i % pages.max(1) as usize) as u8;
+// A day of so many requests, in turn for the pages below a bound. Only how many lines there are, and the last of them.
+fn show_end(rt: &HostRuntime, name: &str, requests: u32, pages: u32) -> io::Result<()>
+    requires { 0 < pages }
+{
+    let mut bytes = Vec::new(rt.alloc());
+    bytes.extend_from_slice(&[2, 0, 1, 0])?;
+    for i in 1..=requests {
+        bytes.extend_from_slice(&(i % pages).to_le_bytes())?;
     }
     let mut text = String::new(rt.alloc());
-    if tell(bytes, &mut text).is_err() {
+    if tell(bytes.as_slice(), &mut text).is_err() {
         return println!(rt; "{name}: nothing is said");
     }
     let count = text.lines().count();
@@ -72,8 +72,8 @@ fn edges(rt: &HostRuntime) -> io::Result<()> {
 }
 
 fn long(rt: &HostRuntime) -> io::Result<()> {
-    show_end(rt, "4096 requests for one page", &mut [0; 16388], 1)?;
-    show_end(rt, "4096 requests for two pages", &mut [0; 16388], 2)?;
-    show_end(rt, "4097 requests", &mut [0; 16392], 3)?;
-    show_end(rt, "16384 requests", &mut [0; 65540], 3)
+    show_end(rt, "4096 requests for one page", 4096, 1)?;
+    show_end(rt, "4096 requests for two pages", 4096, 2)?;
+    show_end(rt, "4097 requests", 4097, 3)?;
+    show_end(rt, "16384 requests", 16384, 3)
 }

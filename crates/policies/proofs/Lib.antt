@@ -1,4 +1,3 @@
 pub mod Rules
-pub mod Shifts
 mod Wholes
 mod Opened

@@ -1,5 +1,6 @@
--- Whether the index row of an LRU cache is well formed, as a test: so a struct can hold the row and say of it that it is. Assumes nothing:
--- these are definitions.
+-- Whether the index row of an LRU cache is well formed, as a test: so a struct can hold the row and say of it that it is. (What a struct says
+-- of its fields may have one proof at most, and Sound has the order of the slots and the cells that note them in it.) Assumes nothing: these
+-- are definitions.
 --     every n p                  p holds of every number below n
 --     some n p                   p holds of some number below n
 --     chained f g a slots b      f leads from a through the slots to b, one to the next, and g leads back

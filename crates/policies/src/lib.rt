@@ -4,8 +4,6 @@
 
 mod policy;
 mod recent;
-mod rows;
 
-pub use policy::Policy;
+pub use policy::{Policy, WithCapacity};
 pub use recent::Lru;
-pub use rows::{find, put_first};

@@ -1,5 +1,9 @@
 // What the adversary sees of a policy.
-ghost use Rattle.std.specs.Prelude.{◌≡◌, ℕ, List, [], ◌∷◌, ◌++◌};
+ghost use Rattle.std.specs.Prelude.{◌≡◌, ℕ, List, false, [], ◌∷◌, ◌++◌, IfOk, MatchOption};
+ghost use Rattle.paging.specs.Rules.{Proper};
+ghost use Rattle.policies.specs.Onward.{is_capacity};
+
+use std::alloc::{AllocError, Global};
 
 // A policy's cache follows from the requests so far. Nothing is asked of how it chooses, nor that it keeps the rules of a cache: that is
 // tested while it runs.
@@ -14,4 +18,11 @@ pub trait Policy {
     // One request.
     fn serve(&mut self, page: u64)
         ensures after { (further : List ℕ) → policy self.new further ≡ policy self.old (further ++ page ∷ []) };
+}
+
+// A policy that can be given any number of places, and keeps the rules of a cache of so many.
+pub trait WithCapacity: Policy + Sized {
+    // An empty cache of k places, where k is a capacity.
+    fn with_capacity(heap: Global, k: usize) -> Result<Option<Self>, AllocError>
+        ensures cases { IfOk result (λ o. MatchOption o (is_capacity k ≡ false) (λ s. Proper k (Self.policy s))) };
 }

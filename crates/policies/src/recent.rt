@@ -8,11 +8,12 @@ ghost use Rattle.lru_cache.specs.Rows.{cached, row_of};
 ghost use Rattle.policies.specs.Onward.{onward, is_capacity, Does};
 ghost use Rattle.policies.specs.Whole.{whole};
 
-use crate::policy::Policy;
+use crate::policy::{Policy, WithCapacity};
 use recency::MAX_CAPACITY;
 use std::alloc::{AllocError, Global};
 
-// Makes an empty cache of k places of two rows, whatever they held.
+// Makes an empty cache of k places of two rows, whatever they held. This and `turn` are functions over two slices, since a ghost field that
+// spans both rows holds again only when both are written.
 fn start(cache: &mut [u64], rows: &mut [u64], k: usize)
     requires low { 1 ≤ k }
     requires high { k ≤ 4096 }
@@ -86,5 +87,11 @@ impl Policy for Lru {
     fn serve(&mut self, page: u64) {
         let k = self.k;
         turn(self.cache.as_mut_slice(), self.rows.as_mut_slice(), k, page);
+    }
+}
+
+impl WithCapacity for Lru {
+    fn with_capacity(heap: Global, k: usize) -> Result<Option<Lru>, AllocError> {
+        Lru::new(heap, k)
     }
 }

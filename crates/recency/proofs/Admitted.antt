@@ -11,7 +11,7 @@ use Rattle.recency.proofs.Frames.{Relinked}
 use Rattle.recency.proofs.Links.{chain_same}
 use Rattle.recency.proofs.Moves.{pushed_relinked, linked_end}
 use Rattle.recency.proofs.Pages.{map_same}
-use Rattle.recency.proofs.Served.{Served, served, Put, put, relinked_count, relinked_sized, relinked_table}
+use Rattle.recency.proofs.Served.{Served, served, Put, put, relinked_table}
 
 -- a ring whose slots have the same links
 pub linked_same :
@@ -42,12 +42,6 @@ module _ (k : ℕ) (row : List ℕ) (s page : ℕ) (sized : Sized k row) (inside
       let c = get_or-set_other row (4 + 3 * s) 0 page 0 (λ e. omega arith) in
       let u = get_or-set_other row (4 + 3 * s) 1 page 0 (λ e. omega arith) in
       record { low = sized.low; high = sized.high; long = omega arith; few = omega (arith, sized.few); spent = omega (arith, sized.spent) }
-
-  pub admitted_sized : Sized k (admitted row s page)
-  admitted_sized = relinked_sized k written (admitted row s page) admitted_links written_sized
-
-  pub admitted_count : count (admitted row s page) ≡ count row
-  admitted_count = relinked_count k written (admitted row s page) admitted_links ∙ get_or-set_other row (4 + 3 * s) 0 page 0 (λ e. omega arith)
 
   -- all other slots are found as before
   pub admitted_table : Table k row (λ t. t ≡ s → ⊥) → Table k (admitted row s page) (λ t. t ≡ s → ⊥)

@@ -1,11 +1,11 @@
 -- The table of cells: what a search that came to its end has shown, and what a new note leaves.
-use Rattle.std.proofs.Common.{◌≡◌, ℕ, ◌+◌, ◌*◌, ◌<◌, ◌≤◌, ◌≢◌, ◌⊎◌, List, length, set, refl, ap, ◌∙◌, inl, inr, ⊎_elim, arith, below_more}
+use Rattle.std.proofs.Common.{◌≡◌, ℕ, ◌+◌, ◌*◌, ◌<◌, ◌≤◌, ◌≢◌, ◌⊎◌, List, set, refl, ap, ◌∙◌, inl, inr, ⊎_elim, arith}
 use Rattle.std.proofs.lemmas.List.{get_or-set_same, get_or-set_other, length-set}
 use Rattle.std.proofs.lemmas.Bool.{cases_lt, cases_eq}
 use Rattle.recency.specs.Row.{count, used, held, cell}
 use Rattle.recency.specs.Hash.{home}
 use Rattle.recency.specs.Sound.{Placed, Table, Finds, Noted, Kept, Sized}
-use Rattle.recency.proofs.Frames.{kept_refl, kept_trans, kept_set, kept_sized}
+use Rattle.recency.proofs.Frames.{kept_trans, kept_set, kept_sized}
 
 -- the cells from the page's home up to p are filled, and none notes a slot that holds the page
 abbrev pub Passed : ℕ → List ℕ → ℕ → ℕ → Type 0
@@ -134,14 +134,6 @@ table_none k row empty =
       placed = λ t low high small. absurd (omega arith);
     }
 
-pub wiped_more :
-    (k : ℕ) (row : List ℕ) (p : ℕ) → 5 + 3 * k + p < length row → ((q : ℕ) → q < p → cell k row q ≡ 0) →
-    (q : ℕ) → q < p + 1 → cell k (set row (5 + 3 * k + p) 0) q ≡ 0
-wiped_more k row p long empty =
-    below_more (λ q. cell k (set row (5 + 3 * k + p) 0) q ≡ 0) p
-    (λ q lt. get_or-set_other row (5 + 3 * k + p) (5 + 3 * k + q) 0 0 (λ e. omega arith) ∙ empty q lt)
-    (get_or-set_same row (5 + 3 * k + p) 0 0 long)
-
 -- a table that is built again: the slots below `slot` are noted, one cell for each, and nothing else of the row has changed
 pub record Entered (k : ℕ) (start row : List ℕ) (slot : ℕ) : Type 0 where
   pub sized : Sized k row
@@ -166,17 +158,6 @@ entered_more k start row row' slot entered low high noted =
           table_fewer k row' (λ t. (t < slot) ⊎ (t ≡ slot)) (λ t. t < slot + 1)
           (λ t _ _ below. ⊎_elim inl (λ le. inr (omega arith)) (cases_lt t slot))
           (noted_table k row slot row' s room noted (λ t. t < slot) low high entered.table);
-    }
-
-pub entered_none :
-    (k : ℕ) (start row : List ℕ) → Sized k start → Kept k start row → used row ≡ 0 → ((p : ℕ) → p < 6 * k → cell k row p ≡ 0) →
-    Entered k row row 1
-entered_none k start row sized kept none empty =
-    record {
-      sized = kept_sized k start row kept sized (omega arith);
-      kept = kept_refl k row;
-      used = omega arith;
-      table = table_none k row empty;
     }
 
 pub entered_all : (k : ℕ) (start row : List ℕ) (slot : ℕ) → Entered k start row slot → count row < slot → Finds k row

@@ -1,28 +1,29 @@
 -- A list copied place by place onto the front of another, as far as both go.
 use Rattle.std.proofs.Common.{◌≡◌, ℕ, ◌+◌, ◌<◌, min, List, ◌++◌, length, get_or, take, drop, set, sym, ap, ◌∙◌, ⊎_elim, arith}
-use Rattle.std.proofs.lemmas.List.{take_more, take_more_set, take_all, take-append-drop, drop-set-lt, drop-drop, drop_all}
+use Rattle.std.proofs.lemmas.List.{take_more, take_more_set, take_all, drop_all}
 use Rattle.std.proofs.lemmas.Bool.{cases_lt}
 
-module _ (source start out : List ℕ) (i : ℕ) (front : take i out ≡ take i source) (back : drop i out ≡ drop i start) where
-  module _ (v : ℕ) (here : i < length out) (there : i < length source) (same : v ≡ get_or source i 0) where
-    pub front_more : take (i + 1) (set out i v) ≡ take (i + 1) source
-    front_more = let a = take_more_set out i v here in let b = take_more source i 0 there in cc
+-- one place more
+pub front_more :
+    (source out : List ℕ) (i v : ℕ) → take i out ≡ take i source → i < length out → i < length source → v ≡ get_or source i 0 →
+    take (i + 1) (set out i v) ≡ take (i + 1) source
+front_more source out i v front here there same = let a = take_more_set out i v here in let b = take_more source i 0 there in cc
 
-    pub back_more : drop (i + 1) (set out i v) ≡ drop (i + 1) start
-    back_more = drop-set-lt (i + 1) out i v (omega arith) ∙ sym (drop-drop 1 i out) ∙ ap (drop 1) back ∙ drop-drop 1 i start
-
-  pub copied : i ≡ min (length source) (length start) → out ≡ take (length start) source ++ drop (length source) start
-  copied end =
-      let parts = sym (take-append-drop i out) in
-      ⊎_elim
-      (λ lt.
-      let e : i ≡ length source = omega arith in
-      let a : take i source ≡ take (length start) source = take_all i source (omega arith) ∙ sym (take_all (length start) source (omega arith)) in
-      let b : drop i start ≡ drop (length source) start = ap (λ (n : ℕ). drop n start) e in
-      cc)
-      (λ le.
-      let e : i ≡ length start = omega arith in
-      let a : take i source ≡ take (length start) source = ap (λ (n : ℕ). take n source) e in
-      let b : drop i start ≡ drop (length source) start = drop_all i start (omega arith) ∙ sym (drop_all (length source) start (omega arith)) in
-      cc)
-      (cases_lt (length source) (length start))
+-- and all of them
+pub copied :
+    (source start front : List ℕ) (n : ℕ) → n ≡ min (length source) (length start) → length front ≡ n → take n front ≡ take n source →
+    front ++ drop n start ≡ take (length start) source ++ drop (length source) start
+copied source start front n end many same =
+    let whole : front ≡ take n source = sym (take_all n front (omega arith)) ∙ same in
+    ⊎_elim
+    (λ lt.
+    let e : n ≡ length source = omega arith in
+    let a : take n source ≡ take (length start) source = take_all n source (omega arith) ∙ sym (take_all (length start) source (omega arith)) in
+    let b : drop n start ≡ drop (length source) start = ap (λ (m : ℕ). drop m start) e in
+    cc)
+    (λ le.
+    let e : n ≡ length start = omega arith in
+    let a : take n source ≡ take (length start) source = ap (λ (m : ℕ). take m source) e in
+    let b : drop n start ≡ drop (length source) start = drop_all n start (omega arith) ∙ sym (drop_all (length source) start (omega arith)) in
+    cc)
+    (cases_lt (length source) (length start))

@@ -1,4 +1,3 @@
-pub mod Homes
 pub mod Frames
 pub mod Cells
 pub mod Links

@@ -1,5 +1,6 @@
 -- The pages that a row holds, by its ring.
-use Rattle.std.proofs.Common.{◌≡◌, ℕ, zero, suc, ◌+◌, ◌<◌, ◌≤◌, true, false, not, eqb, List, [], ◌∷◌, map, length, get_or, sym, refl, ap, ◌∙◌, ⊎_elim, arith}
+use Rattle.std.proofs.Common.{◌≡◌, ℕ, ◌+◌, ◌<◌, ◌≤◌, true, false, Option, None, Some, MatchOption, List, [], ◌∷◌, map, length, get_or, sym, refl, ap, ◌∙◌, ⊎_elim, arith}
+use Rattle.std.specs.Option.{is_some}
 use Rattle.std.proofs.lemmas.Bool.Decides.{nat_tests}
 use Rattle.std.proofs.lemmas.List.{length-map, get_or_past, get_or-map}
 use Rattle.std.proofs.lemmas.Bool.{cases_lt}
@@ -61,13 +62,10 @@ module _ (k : ℕ) (row : List ℕ) (sound : Sound k row) (page : ℕ) where
 
   -- what `probe` answers tells whether the page is there
   pub page_there :
-      (r : ℕ) → (1 ≤ r → (r ≤ count row) × (held row r ≡ page)) →
-      (r ≡ 0 → (s : ℕ) → 1 ≤ s → s ≤ count row → held row s ≡ page → ⊥) → has (pages row) page ≡ not (eqb r 0)
-  page_there zero found missed = page_missed (missed refl)
-  page_there (suc r) found missed =
-      let f = found (omega arith) in
-      let there = page_found (suc r) (omega arith) f.0 f.1 in
-      grind (arith, nat_tests)
+      (r : Option ℕ) → MatchOption r ((s : ℕ) → 1 ≤ s → s ≤ count row → held row s ≡ page → ⊥) (λ s. (1 ≤ s) × (s ≤ count row) × (held row s ≡ page)) →
+      has (pages row) page ≡ is_some r
+  page_there None missed = page_missed missed
+  page_there (Some s) found = page_found s found.0 found.1 found.2
 
 -- the ring by place: the slots in order, and the page of each
 module _ (k : ℕ) (row : List ℕ) (sound : Sound k row) where

@@ -11,7 +11,7 @@ use crate::ring::{push, unlink};
 use crate::table::{note, probe, wipe};
 
 // What a request found.
-#[derive(Clone, Copy)]
+#[derive(Clone, Copy, Debug, PartialEq, Eq)]
 pub enum Outcome {
     // The page was there.
     Hit,
@@ -22,18 +22,18 @@ pub enum Outcome {
 }
 
 // Makes a row for k pages that holds none. Where k is no capacity, or the row is too short for it, nothing is changed.
+// A bool is all there is to say: an error type would have one value.
 pub fn clear(row: &mut [u64], k: usize) -> bool
     ensures value { result ≡ fits k (length row.old) }
     ensures after { MatchBool result (Emptied k row.old row.new) (row.new ≡ row.old) }
 {
-    let Some(len) = row_len(k) else {
-        return false;
-    };
-    if row.len() < len {
-        return false;
+    match row_len(k) {
+        Some(len) if len <= row.len() => {
+            reset(row, k);
+            true
+        }
+        _ => false,
     }
-    reset(row, k);
-    true
 }
 
 // A ring of slot 0 alone, and an empty table.
@@ -54,7 +54,7 @@ pub fn contains(row: &[u64], k: usize, page: u64) -> bool
     requires sound { Sound k row.now }
     ensures value { result ≡ has (pages row.now) page }
 {
-    probe(row, k, page) != 0
+    probe(row, k, page).is_some()
 }
 
 // Requests a page, which is the one used last from then on. One that is not there comes in, where there is no place for the
@@ -66,8 +66,7 @@ pub fn request(row: &mut [u64], k: usize, page: u64) -> Outcome
     ensures sound { Sound k row.new }
     ensures beyond { drop (9 * k + 5) row.new ≡ drop (9 * k + 5) row.old }
 {
-    let slot = probe(row, k, page);
-    if slot != 0 {
+    if let Some(slot) = probe(row, k, page) {
         touch(row, slot);
         return Outcome::Hit;
     }
@@ -146,8 +145,9 @@ pub fn list(row: &[u64], k: usize, out: &mut [u64]) -> usize
 {
     let count = row[0] as usize;
     let mut slot = row[2] as usize;
-    for i in 0..count.min(out.len()) {
-        out[i] = row[4 + 3 * slot];
+    let n = count.min(out.len());
+    for place in &mut out[..n] {
+        *place = row[4 + 3 * slot];
         slot = row[2 + 3 * slot] as usize;
     }
     count

@@ -7,5 +7,3 @@ mod days;
 mod plain;
 #[cfg(test)]
 mod tests;
-#[cfg(test)]
-mod traces;

@@ -1,55 +1,35 @@
 // The plain way to keep pages in the order of use: a list, where every page before the one requested moves by a place.
-ghost use Rattle.std.specs.Prelude.{◌<◌, ◌≤◌, length, IfSome};
+ghost use Rattle.std.specs.Prelude.{◌<◌, length, IfSome};
 
-use crate::days::{FILLED, HIT};
+use recency::Outcome;
+use std::alloc::{AllocError, Global};
 
-// How many of the first `count` pages stand before this one: all of them where it is not there.
-fn place(pages: &[u64], count: usize, page: u64) -> usize
-    requires { count ≤ length pages.now }
-    ensures { result ≤ count }
+// Where a page stands.
+fn place(pages: &[u64], page: u64) -> Option<usize>
+    ensures { IfSome result (λ at. at < length pages.now) }
 {
-    for i in 0..count {
-        if pages[i] == page {
-            return i;
-        }
-    }
-    count
+    pages.iter().position(|&p| p == page)
 }
 
-// Puts a page in front, and those before the place `at` move by one.
-fn front(pages: &mut [u64], at: usize, page: u64)
-    requires { at < length pages.old }
-{
-    for i in (0..at).rev() {
-        pages[i + 1] = pages[i];
+// Requests the trace from an empty list of k places on: what each request found, and the pages at the end.
+pub fn plain_day(
+    heap: Global,
+    k: usize,
+    trace: &[u64],
+) -> Result<(Vec<Outcome>, Vec<u64>), AllocError> {
+    let mut found = Vec::new(heap);
+    let mut pages = Vec::new(heap);
+    for &page in trace {
+        let outcome = if let Some(at) = place(&pages, page) {
+            pages.remove(at);
+            Outcome::Hit
+        } else if pages.len() < k {
+            Outcome::Filled
+        } else {
+            pages.pop().map_or(Outcome::Filled, Outcome::Evicted)
+        };
+        pages.insert(0, page)?;
+        found.push(outcome)?;
     }
-    pages[0] = page;
-}
-
-// Requests the trace from an empty list of k places on, writes what each request found as far as `found` goes, and says how
-// many pages there are at the end. None where there is no room for k pages, or none are wanted.
-pub fn plain_day(pages: &mut [u64], k: usize, trace: &[u64], found: &mut [u64]) -> Option<usize>
-    ensures { IfSome result (λ n. n ≤ length pages.old) }
-{
-    if k == 0 || k > pages.len() {
-        return None;
-    }
-    let mut count = 0;
-    for i in 0..trace.len().min(found.len()) {
-        let at = place(pages, count, trace[i]);
-        if at < count {
-            front(pages, at, trace[i]);
-            found[i] = HIT;
-            continue;
-        }
-        if count < k {
-            front(pages, count, trace[i]);
-            found[i] = FILLED;
-            count += 1;
-            continue;
-        }
-        found[i] = pages[k - 1];
-        front(pages, k - 1, trace[i]);
-    }
-    Some(count)
+    Ok((found, pages))
 }

@@ -1,111 +1,165 @@
 // What must come of a day.
-use crate::days::{FILLED, HIT, UNTOUCHED, agrees, begins, day, gives, refuses};
-use crate::traces::{draw, fill};
+use crate::days::{UNTOUCHED, agrees, begins, day, gives, refuses};
+use recency::Outcome::{Evicted, Filled, Hit};
+use std::test::Fail;
+use traces::{TEN, draw};
 
 // The largest page.
 const TOP: u64 = 0xffff_ffff;
 
+// Writes first, first + step, first + 2 * step and so on, modulo 2^32.
+fn fill(trace: &mut [u64], first: u64, step: u64) {
+    let mut page = first;
+    for place in trace.iter_mut() {
+        *place = page & 0xffff_ffff;
+        page = page.wrapping_add(step);
+    }
+}
+
 // The table is made again within it, once six cells are used.
 #[test]
-fn ten_requests(rt: HostRuntime) {
-    assert!(rt;
-        gives(
-            3,
-            &[1, 2, 3, 1, 4, 1, 2, 5, 3, 1],
-            &[FILLED, FILLED, FILLED, HIT, 2, HIT, 3, 4, 1, 2],
-            &[1, 3, 5],
-        )
-    );
+fn ten_requests(rt: HostRuntime) -> Result<(), Fail> {
+    let ten = gives(
+        rt.alloc(),
+        3,
+        &TEN,
+        &[
+            Filled,
+            Filled,
+            Filled,
+            Hit,
+            Evicted(2),
+            Hit,
+            Evicted(3),
+            Evicted(4),
+            Evicted(1),
+            Evicted(2),
+        ],
+        &[1, 3, 5],
+    )?;
+    assert!(rt; ten);
+    Ok(())
 }
 
 // One place: no request, one, and some in which each page goes for the next.
 #[test]
-fn one_place(rt: HostRuntime) {
-    assert!(rt;
-        gives(1, &[], &[], &[])
-            && gives(1, &[9], &[FILLED], &[9])
-            && gives(
-                1,
-                &[1, 1, 2, 1, 3, 3, 2],
-                &[FILLED, HIT, 1, 2, 1, HIT, 3],
-                &[2],
-            )
-    );
+fn one_place(rt: HostRuntime) -> Result<(), Fail> {
+    let heap = rt.alloc();
+    assert!(rt; gives(heap, 1, &[], &[], &[])?);
+    assert!(rt; gives(heap, 1, &[9], &[Filled], &[9])?);
+    let some = gives(
+        heap,
+        1,
+        &[1, 1, 2, 1, 3, 3, 2],
+        &[
+            Filled,
+            Hit,
+            Evicted(1),
+            Evicted(2),
+            Evicted(1),
+            Hit,
+            Evicted(3),
+        ],
+        &[2],
+    )?;
+    assert!(rt; some);
+    Ok(())
 }
 
 // Every request the same.
 #[test]
-fn one_page(rt: HostRuntime) {
-    let mut expected = [HIT; 1000];
-    expected[0] = FILLED;
-    assert!(rt; gives(4, &[6; 1000], &expected, &[6]));
+fn one_page(rt: HostRuntime) -> Result<(), Fail> {
+    let mut expected = [Hit; 1000];
+    expected[0] = Filled;
+    assert!(rt; gives(rt.alloc(), 4, &[6; 1000], &expected, &[6])?);
+    Ok(())
 }
 
 // The smallest page and the largest are found and go like any other.
 #[test]
-fn first_and_last_page(rt: HostRuntime) {
+fn first_and_last_page(rt: HostRuntime) -> Result<(), Fail> {
+    let expected = [
+        Filled,
+        Filled,
+        Hit,
+        Evicted(TOP),
+        Evicted(0),
+        Evicted(5),
+        Hit,
+        Hit,
+    ];
     assert!(rt;
         gives(
+            rt.alloc(),
             2,
             &[0, TOP, 0, 5, TOP, 0, 0, TOP],
-            &[FILLED, FILLED, HIT, TOP, 0, 5, HIT, HIT],
-            &[TOP, 0],
-        )
+            &expected,
+            &[TOP, 0]
+        )?
     );
+    Ok(())
 }
 
 // One page more than the most places: the oldest goes, and the others stay in order.
 #[test]
-fn one_page_too_many(rt: HostRuntime) {
+fn one_page_too_many(rt: HostRuntime) -> Result<(), Fail> {
     let mut trace = [0u64; 4097];
     fill(&mut trace, 0, 1);
-    let mut expected = [FILLED; 4097];
-    expected[4096] = 0;
+    let mut expected = [Filled; 4097];
+    expected[4096] = Evicted(0);
     let mut pages = [0u64; 4096];
     fill(&mut pages, 4096, 0xffff_ffff_ffff_ffff);
-    assert!(rt; gives(4096, &trace, &expected, &pages));
+    assert!(rt; gives(rt.alloc(), 4096, &trace, &expected, &pages)?);
+    Ok(())
 }
 
 // Days of misses alone, in which the table is made again many times.
 #[test]
-fn no_page_twice(rt: HostRuntime) {
+fn no_page_twice(rt: HostRuntime) -> Result<(), Fail> {
+    let heap = rt.alloc();
     let mut trace = [0u64; 10000];
     fill(&mut trace, 0, 1);
-    let small = agrees(3, &trace) && agrees(64, &trace);
+    assert!(rt; agrees(heap, 3, &trace)? && agrees(heap, 64, &trace)?);
     fill(&mut trace, TOP, 0x1_0001);
-    assert!(rt; small && agrees(64, &trace));
+    assert!(rt; agrees(heap, 64, &trace)?);
+    Ok(())
 }
 
 #[test]
-fn drawn(rt: HostRuntime) {
+fn drawn(rt: HostRuntime) -> Result<(), Fail> {
+    let heap = rt.alloc();
     let mut trace = [0u64; 10000];
     draw(&mut trace, 1, 12);
-    let few = agrees(1, &trace) && agrees(2, &trace) && agrees(5, &trace) && agrees(12, &trace);
+    for k in [1, 2, 5, 12] {
+        assert!(rt; agrees(heap, k, &trace)?, "{k} places");
+    }
     draw(&mut trace, 2, 5000);
-    assert!(rt; few && agrees(1000, &trace) && agrees(4096, &trace));
+    for k in [1000, 4096] {
+        assert!(rt; agrees(heap, k, &trace)?, "{k} places");
+    }
+    Ok(())
 }
 
 // Into a slice that is too short, and into one that is longer.
 #[test]
-fn listed_as_far_as_it_goes(rt: HostRuntime) {
+fn listed_as_far_as_it_goes(rt: HostRuntime) -> Result<(), Fail> {
+    let heap = rt.alloc();
     let mut row = [0u64; 32];
     let mut short = [UNTOUCHED; 2];
-    let three = day(&mut row, 3, &[1, 2, 3, 1], &mut [], &mut short);
+    let three = day(heap, &mut row, 3, &[1, 2, 3, 1], &mut short)?;
+    assert!(rt; three.is_some_and(|(_, count)| count == 3) && begins(&short, &[1, 3]));
     let mut long = [UNTOUCHED; 5];
-    let two = day(&mut row, 3, &[1, 2, 1], &mut [], &mut long);
-    assert!(rt;
-        three == Some(3) && begins(&short, &[1, 3]) && two == Some(2) && begins(&long, &[1, 2])
-    );
+    let two = day(heap, &mut row, 3, &[1, 2, 1], &mut long)?;
+    assert!(rt; two.is_some_and(|(_, count)| count == 2) && begins(&long, &[1, 2]));
+    Ok(())
 }
 
 // No capacity, and a row one number too short.
 #[test]
-fn not_cleared(rt: HostRuntime) {
-    assert!(rt;
-        refuses(&mut [0; 40000], 0)
-            && refuses(&mut [0; 40000], 4097)
-            && refuses(&mut [0; 36868], 4096)
-            && refuses(&mut [0; 13], 1)
-            && refuses(&mut [], 1)
-    );
+fn not_cleared(rt: HostRuntime) -> Result<(), Fail> {
+    let heap = rt.alloc();
+    for (len, k) in [(40000, 0), (40000, 4097), (36868, 4096), (13, 1), (0, 1)] {
+        assert!(rt; refuses(heap, len, k)?, "{len} numbers for {k}");
+    }
+    Ok(())
 }

@@ -1,47 +1,32 @@
 // A day from a text, one page number a line, played by LRU and by the least requested side by side, and its summary.
 #![tactic(auto)]
 
+use anyhow::Context;
 use least_requested::LeastRequested;
-use policies::{Lru, Policy};
+use policies::{Lru, WithCapacity};
 use std::io::Read;
-use summary::summarize;
+use summary::{summarize, tell};
 
 const PLACES: usize = 5;
 
+// A line that is no number is a comment.
 fn main(rt: HostRuntime) -> anyhow::Result<()> {
     let mut text = String::new(rt.alloc());
     rt.stdin().read_to_string(&mut text)?;
-    let mut trace = Vec::new(rt.alloc());
-    for line in text.lines() {
-        if line.starts_with("#") {
-            continue;
-        }
-        let Ok(page) = line.parse::<u64>() else {
-            continue;
-        };
-        trace.push(page)?;
-    }
-    play_both(&rt, trace.as_slice())?;
-    sum_up(&rt, trace.as_slice())
-}
-
-fn play_both(rt: &HostRuntime, trace: &[u64]) -> anyhow::Result<()> {
-    if let Some(mut keeper) = Lru::new(rt.alloc(), PLACES)? {
-        tell(rt, "LRU", trace, &mut keeper)?;
-    }
-    if let Some(mut keeper) = LeastRequested::new(rt.alloc(), PLACES)? {
-        tell(rt, "the least requested", trace, &mut keeper)?;
-    }
-    Ok(())
+    let trace: Vec<u64> = text
+        .lines()
+        .filter_map(|line| line.parse().ok())
+        .collect(rt.alloc())?;
+    play::<Lru>(&rt, "LRU", &trace)?;
+    play::<LeastRequested>(&rt, "the least requested", &trace)?;
+    sum_up(&rt, &trace)
 }
 
 // How many of the requests a policy fetches.
-fn tell<P: Policy>(
-    rt: &HostRuntime,
-    name: &str,
-    trace: &[u64],
-    keeper: &mut P,
-) -> anyhow::Result<()> {
+fn play<P: WithCapacity + Drop>(rt: &HostRuntime, name: &str, trace: &[u64]) -> anyhow::Result<()> {
+    let mut keeper = P::with_capacity(rt.alloc(), PLACES)?.context(
+        "there is no policy with so many places",
+    )?;
     let mut fetched = 0u64;
     for page in trace {
         if !keeper.shown().contains(page) {
@@ -55,10 +40,9 @@ fn tell<P: Policy>(
 }
 
 fn sum_up(rt: &HostRuntime, trace: &[u64]) -> anyhow::Result<()> {
+    let summary = summarize(trace, PLACES)?;
     let mut text = String::new(rt.alloc());
-    if let Ok(summary) = summarize(trace, PLACES) {
-        summary::tell(summary, &mut text)?;
-    }
+    tell(summary, &mut text)?;
     rt.print(&text)?;
     Ok(())
 }

@@ -4,9 +4,10 @@ ghost use Rattle.std.specs.Prelude.{◌≤◌};
 use crate::distances::count;
 use crate::schedules::search;
 use crate::tallies::{Close, Tally};
+use anyhow::Context;
 use belady::report;
-use lru_cache::play;
-use std::io;
+use lru_cache::{Refusal, play};
+use std::fmt;
 
 // The largest capacity of LRU, and of the report.
 const LARGEST: usize = 6;
@@ -28,10 +29,9 @@ struct Sayings {
 
 impl Sayings {
     fn close(self) -> Close {
+        let places = self.k.saturating_add(1).saturating_sub(self.h);
         Close {
-            part: self
-                .played
-                .saturating_mul(self.k.saturating_add(1).saturating_sub(self.h)),
+            part: self.played.saturating_mul(places),
             whole: self.fewest.saturating_mul(self.k),
             k: self.k,
         }
@@ -46,57 +46,59 @@ impl Sayings {
     }
 }
 
-// A day that is not as it should be.
-fn tell(rt: &HostRuntime, trace: &[u64], sayings: Sayings) -> io::Result<()> {
-    let Sayings {
-        h,
-        k,
-        house,
-        known,
-        played,
-        counted,
-        fewest,
-    } = sayings;
-    println!(rt;
-        "DIFFERS: LRU with {k} places: house {house}, played {played}, counted {counted}"
-    )?;
-    print!(rt; "    with {h} places: known {known}, fewest {fewest}; the requests:")?;
-    for page in trace {
-        print!(rt; " {page}")?;
+impl fmt::Display for Sayings {
+    fn fmt<W: fmt::Write>(&self, f: &mut fmt::Formatter<W>) -> fmt::Result {
+        let Sayings {
+            h,
+            k,
+            house,
+            known,
+            played,
+            counted,
+            fewest,
+        } = *self;
+        writeln!(
+            f,
+            "DIFFERS: LRU with {k} places: house {house}, played {played}, counted {counted}"
+        )?;
+        write!(f, "    with {h} places: known {known}, fewest {fewest}")
     }
-    rt.println("")
 }
 
-// What LRU with k places fetches of a trace; no number that a trace can have where it is refused.
-fn fetched(trace: &[u64], k: usize) -> u64 {
+// What LRU with k places fetches of a trace.
+fn fetched(trace: &[u64], k: usize) -> Result<u64, Refusal> {
     let mut cache = [0; 2 + LARGEST];
     let mut index = [0; 9 * LARGEST + 5];
     cache[0] = k as u64;
-    play(&mut cache, &mut index, trace, &mut []).unwrap_or(u64::MAX)
+    play(&mut cache, &mut index, trace, &mut [])
 }
 
 // The report and LRU with every capacity from h to the largest, beside every schedule with h places.
-pub fn compare(rt: &HostRuntime, trace: &[u64], h: usize, tally: &mut Tally) -> io::Result<()>
+pub fn compare(rt: &HostRuntime, trace: &[u64], h: usize, tally: &mut Tally) -> anyhow::Result<()>
     requires low { 1 ≤ h }
     requires high { h ≤ 6 }
 {
     let found = search(trace, h as u32);
     tally.add_day(found.schedules);
-    let mut row = [u64::MAX; 2 * LARGEST];
-    let _ = report(trace, LARGEST, &mut row);
-    let known = row[LARGEST + h - 1];
-    for k in h..LARGEST + 1 {
+    let fewest = found.fewest.context("no schedule serves a day")?;
+    let mut row = [0; 2 * LARGEST];
+    report(trace, LARGEST, &mut row)?;
+    for k in h..=LARGEST {
         let sayings = Sayings {
             h: h as u64,
             k: k as u64,
             house: row[k - 1],
-            known,
-            played: fetched(trace, k),
+            known: row[LARGEST + h - 1],
+            played: fetched(trace, k)?,
             counted: count(trace, k as u32),
-            fewest: found.fewest,
+            fewest,
         };
         if !sayings.right() {
-            tell(rt, trace, sayings)?;
+            print!(rt; "{sayings}; the requests:")?;
+            for page in trace {
+                print!(rt; " {page}")?;
+            }
+            rt.println("")?;
         }
         tally.add_comparison(sayings.right(), sayings.close());
     }

@@ -1,4 +1,6 @@
 // Short days over the pages 0 to 5, made by a fixed generator.
+use std::fmt;
+use traces::Random;
 
 #[derive(Clone, Copy)]
 pub enum Kind {
@@ -14,48 +16,43 @@ pub enum Kind {
     TwoScans,
 }
 
-impl Kind {
-    pub fn name(self) -> &'static str {
-        match self {
+impl fmt::Display for Kind {
+    fn fmt<W: fmt::Write>(&self, f: &mut fmt::Formatter<W>) -> fmt::Result {
+        f.write_str(match self {
             Kind::AnyPage => "any page",
             Kind::Skewed => "skewed",
             Kind::Loop => "loop",
             Kind::Phases => "phases",
             Kind::TwoScans => "two scans",
-        }
+        })
     }
-}
-
-// Where the generator stands.
-fn next(state: u64) -> u64 {
-    state
-        .wrapping_mul(6364136223846793005)
-        .wrapping_add(1442695040888963407)
 }
 
 // Page n of a loop of two to five pages; which length is the day's.
 fn in_loop(n: u64, day: u64, random: u64) -> u64 {
     if random % 8 == 0 {
-        return random / 8 % 6;
+        random / 8 % 6
+    } else {
+        n % (day % 4 + 2)
     }
-    n % (day % 4 + 2)
 }
 
 // Place n of a scan from 0 to 5 and back.
 fn in_scans(n: u64) -> u64 {
     let place = n % 10;
-    if place < 6 { place } else { 10 - place }
+    place.min(10 - place)
 }
 
 // Makes a day of a kind, another one for each number.
 pub fn fill(trace: &mut [u64], kind: Kind, day: u64) {
-    let mut state = next(day);
+    let mut numbers = Random::new(day);
+    // a day begins at the second number
+    let _ = numbers.draw();
     let mut scanned = day % 6;
-    for (i, page) in trace.iter_mut().enumerate() {
-        state = next(state);
-        let random = state >> 33;
-        let n = i as u64;
-        scanned = scanned.wrapping_add((random % 4 != 0) as u64);
+    for (n, page) in (0..).zip(trace.iter_mut()) {
+        let random = numbers.draw();
+        scanned = scanned.wrapping_add(u64::from(random % 4 != 0));
+        // one match here: closures would each take n, the day, the number and the place in the scan
         *page = match kind {
             Kind::AnyPage => random % 5,
             Kind::Skewed => (random % 6).min(random / 6 % 6),

@@ -8,30 +8,23 @@ pub struct Close {
     pub k: u64,
 }
 
-#[derive(Clone, Copy)]
+impl Close {
+    // Whether it is a larger part of the whole than another.
+    fn is_above(self, other: Close) -> bool {
+        self.part.saturating_mul(other.whole) > other.part.saturating_mul(self.whole)
+    }
+}
+
+#[derive(Clone, Copy, Default)]
 pub struct Tally {
     pub days: u64,
     pub schedules: u64,
     pub compared: u64,
     pub failed: u64,
-    pub closest: Close,
+    pub closest: Option<Close>,
 }
 
 impl Tally {
-    pub fn new() -> Tally {
-        Tally {
-            days: 0,
-            schedules: 0,
-            compared: 0,
-            failed: 0,
-            closest: Close {
-                part: 0,
-                whole: 1,
-                k: 0,
-            },
-        }
-    }
-
     // One more day, with so many schedules.
     pub fn add_day(&mut self, schedules: u64) {
         self.days = self.days.saturating_add(1);
@@ -41,14 +34,13 @@ impl Tally {
     // One more comparison, and whether everything was as it should be.
     pub fn add_comparison(&mut self, right: bool, close: Close) {
         self.compared = self.compared.saturating_add(1);
-        self.failed = self.failed.saturating_add(!right as u64);
-        let closest = self.closest;
-        if close.part.saturating_mul(closest.whole) > closest.part.saturating_mul(close.whole) {
-            self.closest = close;
+        self.failed = self.failed.saturating_add(u64::from(!right));
+        if self.closest.is_none_or(|closest| close.is_above(closest)) {
+            self.closest = Some(close);
         }
     }
 
-    // Adds the counts of another tally.
+    // Adds the counts of another tally. What came closest stays as it is, so this is no `+=`.
     pub fn add_all(&mut self, other: Tally) {
         self.days = self.days.saturating_add(other.days);
         self.schedules = self.schedules.saturating_add(other.schedules);

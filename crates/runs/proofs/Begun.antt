@@ -1,14 +1,13 @@
 -- A run from where the challenge begins.
-use Rattle.std.proofs.Common.{◌≡◌, ℕ, suc, ◌+◌, ◌-◌, ◌*◌, ◌^◌, ◌<◌, true, List, length, drop, is_ok, IfOk, IfErr, Ok, Err, Result, sym, refl, subst, arith, MatchOption}
+use Rattle.std.proofs.Common.{◌≡◌, ℕ, suc, ◌+◌, ◌-◌, ◌*◌, ◌^◌, ◌<◌, true, List, is_ok, IfErr, Ok, Err, Result, sym, refl, subst, arith}
 use Rattle.paging.specs.Policies.{Policy}
 use Rattle.paging.specs.Rules.{Proper}
-use Rattle.lru_cache.specs.declared.refusals.Refusal.{Refusal}
 use Rattle.adversary.specs.declared.challenge.Challenge.{Challenge}
 use Rattle.runs.specs.declared.counts.Counts.{Counts}
 use Rattle.runs.specs.declared.counts.Stopped.{Stopped}
-use Rattle.adversary.specs.Begins.{unfit, Begun}
+use Rattle.adversary.specs.Begins.{Begun}
 use Rattle.runs.specs.Runs.{Against}
-use Rattle.runs.specs.Whole.{Ran, Broke}
+use Rattle.runs.specs.Whole.{Broke}
 use Rattle.runs.proofs.Against.{against_none}
 use Rattle.runs.proofs.Never.{never_broke}
 
@@ -20,27 +19,11 @@ module _ (k h : ℕ) (policy : Policy) (row : List ℕ) (c : Challenge) (b : Beg
       subst P (sym b.k_is) (subst Q (sym b.h_is) (against_none k h policy row c b))
 
   module _ (m : ℕ) (row' : List ℕ) (current : Policy) where
-    begun_ran : (s : Counts) → Ran c.k c.h policy m s row' current → Ran k h policy m s row' current
-    begun_ran s x =
-        let P : ℕ → Type 0 = λ j. Ran j c.h policy m s row' current in
-        let Q : ℕ → Type 0 = λ i. Ran k i policy m s row' current in
-        subst Q b.h_is (subst P b.k_is x)
-
     begun_broke : (s : Stopped) → Broke c.k c.h policy m s row' current → Broke k h policy m s row' current
     begun_broke s x =
         let P : ℕ → Type 0 = λ j. Broke j c.h policy m s row' current in
         let Q : ℕ → Type 0 = λ i. Broke k i policy m s row' current in
         subst Q b.h_is (subst P b.k_is x)
-
-    pub run_ran : (r : Result Counts Stopped) → IfOk r (λ s. Ran c.k c.h policy m s row' current) → IfOk r (λ s. Ran k h policy m s row' current)
-    run_ran (Ok s) x = begun_ran s x
-    run_ran (Err s) x = tt
-
-    pub run_refused :
-        (r : Result Counts Stopped) (Q : Stopped → Refusal → Type 0) → IfErr r (λ s. Broke c.k c.h policy m s row' current) →
-        IfErr r (λ s. MatchOption (unfit k h (length row)) (Broke k h policy m s row' current) (Q s))
-    run_refused (Ok s) Q x = tt
-    run_refused (Err s) Q x = rw b.fits (begun_broke s x)
 
     pub run_proper :
         (r : Result Counts Stopped) → IfErr r (λ s. Broke c.k c.h policy m s row' current) → Proper k policy →
@@ -52,6 +35,3 @@ module _ (k h : ℕ) (policy : Policy) (row : List ℕ) (c : Challenge) (b : Beg
         let e = b.k_is in
         let f = b.h_is in
         absurd (never_broke k h policy m s row' current (omega arith) (omega arith) p few (begun_broke s x))
-
-    pub run_beyond : drop (3 * c.k + 1) row' ≡ drop (3 * c.k + 1) row → drop (3 * k + 1) row' ≡ drop (3 * k + 1) row
-    run_beyond same = rw b.k_is at same

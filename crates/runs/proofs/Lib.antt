@@ -1,3 +1,4 @@
+mod Mapped
 mod Keeping
 mod Against
 mod Wholes

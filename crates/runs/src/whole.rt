@@ -10,10 +10,11 @@ use crate::counts::{Counts, Stopped};
 use adversary::{Challenge, ask};
 use policies::Policy;
 
-// Asks for as many pages as are wanted, one after the other, from the beginning on.
+// Asks for as many pages as are wanted, one after the other, from the beginning on. Policy, challenge and row are named in each clause: of
+// what a struct over what is lent has written, nothing is known once it is let go. The loop counts, since the count is told.
 fn ask_all<P: Policy>(
     keeper: &mut P,
-    challenge: Challenge,
+    mut challenge: Challenge,
     row: &mut [u64],
     requests: u64,
 ) -> Result<Challenge, Stopped>
@@ -24,12 +25,8 @@ fn ask_all<P: Policy>(
     ensures halted { IfErr result (λ s. Halted challenge.k challenge.h (P.policy keeper.old) s.after s.refusal row.new (P.policy keeper.new)) }
     ensures beyond { drop (3 * challenge.k + 1) row.new ≡ drop (3 * challenge.k + 1) row.old }
 {
-    let mut challenge = challenge;
     for n in 0..requests {
-        match ask(keeper, challenge, row) {
-            Ok(next) => challenge = next,
-            Err(refusal) => return Err(Stopped { after: n, refusal }),
-        }
+        challenge = ask(keeper, challenge, row).map_err(|refusal| Stopped { after: n, refusal })?;
     }
     Ok(challenge)
 }
@@ -48,12 +45,10 @@ fn run_on<P: Policy>(
 {
     let requests = challenge.h as u64 + rounds as u64 * challenge.k as u64;
     let end = ask_all(keeper, challenge, row, requests)?;
-    if let Err(refusal) = end.accept(row, keeper.shown()) {
-        return Err(Stopped {
-            after: requests,
-            refusal,
-        });
-    }
+    end.accept(row, keeper.shown()).map_err(|refusal| Stopped {
+        after: requests,
+        refusal,
+    })?;
     let news = challenge.k + 1 - challenge.h;
     let beside = challenge.h as u64 + rounds as u64 * news as u64;
     Ok(Counts {
@@ -78,8 +73,6 @@ pub fn run<P: Policy>(
     ensures beyond { drop (3 * k + 1) row.new ≡ drop (3 * k + 1) row.old }
     ensures proper { unfit k h (length row.old) ≡ None → Proper k (P.policy keeper.old) → h + rounds * (suc k - h) < 2 ^ 32 → is_ok result ≡ true }
 {
-    match Challenge::begin(k, h, row) {
-        Ok(challenge) => run_on(keeper, challenge, rounds, row),
-        Err(refusal) => Err(Stopped { after: 0, refusal }),
-    }
+    let challenge = Challenge::begin(k, h, row).map_err(|refusal| Stopped { after: 0, refusal })?;
+    run_on(keeper, challenge, rounds, row)
 }

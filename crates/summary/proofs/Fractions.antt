@@ -1,13 +1,8 @@
 -- The number of places against which a promise is tightest, found place by place. Assumes nothing.
---     product_small                 a product of two numbers up to 4,096
---     tight_first                   one place is the tightest of one
 --     tight_stays, tight_moves      one place more: it is not as tight, or it is
 --     tight_done                    all of them
-use Rattle.std.proofs.Common.{◌≡◌, ℕ, ◌+◌, ◌-◌, ◌*◌, ◌<◌, ◌≤◌, le_trans, le_refl, mul-le-mul_right, mul-le-mul, mul_right_comm, le_of_mul-le-mul_right, arith, below_more}
+use Rattle.std.proofs.Common.{ℕ, ◌+◌, ◌-◌, ◌*◌, ◌<◌, ◌≤◌, le_trans, le_refl, mul-le-mul_right, mul_right_comm, le_of_mul-le-mul_right, arith, below_more}
 use Rattle.summary.specs.Counted.{Tightest}
-
-pub product_small : (a b : ℕ) → a ≤ 4096 → b ≤ 4096 → a * b ≤ 16777216
-product_small a b p q = mul-le-mul p q
 
 -- a / b ≤ c / d ≤ e / f
 fractions : (a b c d e f : ℕ) → 0 < d → a * d ≤ c * b → c * f ≤ e * d → a * f ≤ e * b
@@ -23,14 +18,7 @@ pub record TightOf (known : ℕ → ℕ) (k n h : ℕ) : Type 0 where
   pub largest : (j : ℕ) → h < j → j < n → known h * (k + 1 - j) < known j * (k + 1 - h)
 
 module _ (known : ℕ → ℕ) (k : ℕ) where
-  pub tight_first : TightOf known k 2 1
-  tight_first =
-      record {
-        least = λ j low below. (let one : j ≡ 1 = omega arith in rw one (le_refl _));
-        largest = λ j above below. (let z : ⊥ = omega arith in absurd z);
-      }
-
-  module _ (j h : ℕ) (le : h < j) (within : j ≤ k) (t : TightOf known k j h) where
+  module _ (j h : ℕ) (le : h ≤ j) (within : j ≤ k) (t : TightOf known k j h) where
     pub tight_stays : known h * (k + 1 - j) < known j * (k + 1 - h) → TightOf known k (j + 1) h
     tight_stays more =
         let least : (i : ℕ) → i < j + 1 → 1 ≤ i → known h * (k + 1 - i) ≤ known i * (k + 1 - h) =

@@ -1,2 +1,3 @@
 pub mod Counted
 pub mod Said
+pub mod Reports

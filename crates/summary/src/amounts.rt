@@ -6,7 +6,7 @@ use crate::summaries::Summary;
 use std::fmt;
 
 // So many of something.
-#[derive(Clone, Copy)]
+#[derive(Clone, Copy, Debug, PartialEq, Eq)]
 pub(crate) enum Amount {
     Requests(u64),
     Pages(u64),
@@ -19,7 +19,7 @@ impl fmt::Display for Amount {
     ghost output = { λ a. Some (amount_bytes a) };
 
     fn fmt<W: fmt::Write>(&self, f: &mut fmt::Formatter<W>) -> fmt::Result {
-        match *self {
+        match self {
             Amount::Requests(1) => write!(f, "1 request"),
             Amount::Requests(n) => write!(f, "{n} requests"),
             Amount::Pages(1) => write!(f, "1 page"),
@@ -33,36 +33,36 @@ impl fmt::Display for Amount {
 }
 
 // A number of hundredths as a decimal.
-#[derive(Clone, Copy)]
-pub(crate) struct Hundredths {
-    pub(crate) count: u64,
-}
+#[derive(Clone, Copy, Debug, PartialEq, Eq)]
+pub(crate) struct Hundredths(pub(crate) u64);
 
 impl fmt::Display for Hundredths {
-    ghost output = { λ h. Some (hundredths_bytes h.count) };
+    ghost output = { λ h. Some (hundredths_bytes h.0) };
 
     fn fmt<W: fmt::Write>(&self, f: &mut fmt::Formatter<W>) -> fmt::Result {
-        let whole = self.count / 100;
-        let tenths = self.count / 10 % 10;
-        let rest = self.count % 10;
-        write!(f, "{whole}.{tenths}{rest}")
+        let count = self.0;
+        write!(f, "{}.{}{}", count / 100, count / 10 % 10, count % 10)
     }
 }
 
 // The promise that is tightest, in numbers.
-#[derive(Clone, Copy)]
-pub(crate) struct Bound {
-    pub(crate) of: Summary,
-}
+#[derive(Clone, Copy, Debug, PartialEq, Eq)]
+pub(crate) struct Bound(pub(crate) Summary);
 
 impl fmt::Display for Bound {
-    ghost output = { λ b. Some (bound_bytes b.of) };
+    ghost output = { λ b. Some (bound_bytes b.0) };
 
     fn fmt<W: fmt::Write>(&self, f: &mut fmt::Formatter<W>) -> fmt::Result {
-        let k = self.of.places;
-        let h = self.of.tight;
-        let house = self.of.house;
-        let against = self.of.against;
-        write!(f, "({k} - {h} + 1) x {house} <= {k} x {against}")
+        let Summary {
+            places,
+            tight,
+            house,
+            against,
+            ..
+        } = self.0;
+        write!(
+            f,
+            "({places} - {tight} + 1) x {house} <= {places} x {against}"
+        )
     }
 }

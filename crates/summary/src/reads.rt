@@ -1,81 +1,104 @@
 // A summary read off the report for every number of places.
-ghost use Rattle.std.specs.Prelude.{◌≡◌, ℕ, suc, ◌+◌, ◌-◌, ◌*◌, ◌<◌, ◌≤◌, length, slice_index};
-ghost use Rattle.belady.specs.Reported.{Reported};
+ghost use Rattle.std.specs.Prelude.{◌≡◌, ◌-◌, ◌<◌, ◌≤◌, [], length, slice_index, All};
+ghost use Rattle.paging.specs.Belady.{belady_fetches};
+ghost use Rattle.paging.specs.Lru.{lru_fetches};
+ghost use Rattle.paging.specs.Stretches.{different};
 ghost use Rattle.summary.specs.Counted.{rounded_up, Tightest, Needed, Says};
+ghost use Rattle.summary.specs.Reports.{Reports};
 
 use crate::summaries::Summary;
 use curve::MAX_CAPACITIES;
 
+// The report of a trace for 1, 2 .. 4,096 places.
+#[derive(Clone, Copy, Debug)]
+pub(crate) struct Report<'a> {
+    pub(crate) trace: &'a [u64],
+    // what LRU fetches, and the fewest that anybody could
+    pub(crate) house: &'a [u64],
+    pub(crate) known: &'a [u64],
+    ghost reports: { Reports trace.now house.now known.now },
+}
+
 // a / b rounded up, and 0 where b is 0.
 fn rounded_up(a: u64, b: u64) -> u64
-    requires small { a + b < 1000000000 }
     ensures value { result ≡ rounded_up a b }
 {
-    if b == 0 {
-        return 0;
-    }
-    (a + (b - 1)) / b
+    if b == 0 { 0 } else { a.div_ceil(b) }
 }
 
-// The number of places, 1 to k, against which the promise of k places is tightest; of several the largest. The second half of the row has
-// the fewest fetches with 1, 2 .. places.
-fn tightest(row: &[u64], k: usize) -> usize
-    requires low { 1 ≤ k }
-    requires high { k ≤ 4096 }
-    requires long { length row.now ≡ 8192 }
-    requires small { (h : ℕ) → 1 ≤ h → h ≤ k → slice_index row.now (4096 + h - 1) ≤ 4096 }
-    ensures value { Tightest (λ h. slice_index row.now (4096 + h - 1)) k result }
+// The number of places, 1 to k, against which the promise of k places is tightest; of several the largest. The row has the fewest fetches
+// with 1, 2 .. k places.
+fn tightest(known: &[u64]) -> usize
+    requires low { 1 ≤ length known.now }
+    requires high { length known.now ≤ 4096 }
+    requires small { All (λ n. n ≤ 4096) known.now }
+    ensures value { Tightest (λ h. slice_index known.now (h - 1)) (length known.now) result }
 {
-    let mut h = 1;
-    for j in 2..k + 1 {
-        let so_far = row[MAX_CAPACITIES + h - 1] * (k + 1 - j) as u64;
-        let here = row[MAX_CAPACITIES + j - 1] * (k + 1 - h) as u64;
-        if so_far < here {
-            continue;
-        }
-        h = j;
-    }
-    h
-}
-
-// The fewest places with which LRU fetches no more than n. The first half of the row has what it fetches with 1, 2 .. places, at last few enough.
-fn needed(row: &[u64], n: u64) -> usize
-    requires long { length row.now ≡ 8192 }
-    requires enough { slice_index row.now 4095 ≤ n }
-    ensures within { result ≤ 4096 }
-    ensures value { Needed (λ c. slice_index row.now (c - 1)) n result }
-{
-    for c in 1..MAX_CAPACITIES {
-        if row[c - 1] <= n {
-            return c;
+    let k = known.len();
+    let mut tight = 1;
+    let mut against = known[0];
+    for (i, &fewest) in known.iter().enumerate() {
+        let h = i + 1;
+        if fewest * (k + 1 - tight) as u64 <= against * (k + 1 - h) as u64 {
+            tight = h;
+            against = fewest;
         }
     }
-    MAX_CAPACITIES
+    tight
 }
 
-// The summary of a trace that the row is the report of.
-pub(crate) fn read(trace: &[u64], k: usize, row: &[u64]) -> Summary
-    requires short { length trace.now ≤ 4096 }
-    requires low { 1 ≤ k }
-    requires high { k ≤ 4096 }
-    requires long { length row.now ≡ 8192 }
-    requires reported { Reported trace.now 4096 row.now row.now }
-    ensures says { Says trace.now k result }
-{
-    let house = row[k - 1];
-    let known = row[MAX_CAPACITIES + k - 1];
-    let tight = tightest(row, k);
-    let against = row[MAX_CAPACITIES + tight - 1];
-    Summary {
-        requests: trace.len() as u64,
-        different: row[MAX_CAPACITIES - 1],
-        places: k as u64,
-        house,
-        known,
-        hundredths: rounded_up(100 * house, known),
-        tight: tight as u64,
-        against,
-        allowed: k as u64 * against / (k + 1 - tight) as u64,
-        needed: needed(row, known) as u64,
+impl Report<'_> {
+    // What LRU fetches with c places.
+    fn fetched(self, c: usize) -> u64
+        requires low { 1 ≤ c }
+        requires high { c ≤ 4096 }
+        ensures value { result ≡ lru_fetches c [] self.entry.trace.now }
+        ensures small { result ≤ 4096 }
+    {
+        self.house[c - 1]
+    }
+
+    // The fewest that anybody could have fetched with c places.
+    fn fewest(self, c: usize) -> u64
+        requires low { 1 ≤ c }
+        requires high { c ≤ 4096 }
+        ensures value { result ≡ belady_fetches c [] self.entry.trace.now }
+        ensures small { result ≤ 4096 }
+    {
+        self.known[c - 1]
+    }
+
+    // The fewest places with which LRU fetches no more than n.
+    fn needed(self, n: u64) -> usize
+        requires enough { different self.trace.now ≤ n }
+        ensures within { result ≤ 4096 }
+        ensures value { Needed (λ c. lru_fetches c [] self.entry.trace.now) n result }
+    {
+        let found = self.house.iter().position(|&fetched| fetched <= n);
+        found.unwrap() + 1
+    }
+
+    // The summary of the trace with k places.
+    pub(crate) fn read(self, k: usize) -> Summary
+        requires low { 1 ≤ k }
+        requires high { k ≤ 4096 }
+        ensures says { Says self.entry.trace.now k result }
+    {
+        let house = self.fetched(k);
+        let known = self.fewest(k);
+        let tight = tightest(&self.known[..k]);
+        let against = self.fewest(tight);
+        Summary {
+            requests: self.trace.len() as u64,
+            different: self.fetched(MAX_CAPACITIES),
+            places: k as u64,
+            house,
+            known,
+            hundredths: rounded_up(100 * house, known),
+            tight: tight as u64,
+            against,
+            allowed: k as u64 * against / (k + 1 - tight) as u64,
+            needed: self.needed(known) as u64,
+        }
     }
 }

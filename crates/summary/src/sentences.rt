@@ -6,7 +6,7 @@ use crate::amounts::{Amount, Bound, Hundredths};
 use crate::summaries::Summary;
 use std::fmt;
 
-#[derive(Clone, Copy)]
+#[derive(Clone, Copy, Debug, PartialEq, Eq)]
 pub(crate) enum Sentence {
     // nothing was requested
     Nothing,
@@ -28,52 +28,47 @@ impl fmt::Display for Sentence {
     ghost output = { λ s. Some (sentence_bytes s) };
 
     fn fmt<W: fmt::Write>(&self, f: &mut fmt::Formatter<W>) -> fmt::Result {
-        match *self {
+        match self {
             Sentence::Nothing => write!(f, "There were no requests, and nothing was fetched."),
-            Sentence::Counts(s) => {
-                let requests = Amount::Requests(s.requests);
-                let pages = Amount::Pages(s.different);
-                write!(f, "{requests} for {pages}.")
-            }
-            Sentence::Fewest(s) => {
-                let places = Amount::Places(s.places);
-                let house = s.house;
-                write!(
-                    f,
-                    "With {places} the house fetched {house}, and nobody could have fetched fewer."
-                )
-            }
-            Sentence::Fetched(s) => {
-                let places = Amount::Places(s.places);
-                let house = s.house;
-                let known = s.known;
-                let times = Hundredths {
-                    count: s.hundredths,
-                };
-                write!(
-                    f,
-                    "With {places} the house fetched {house}, and nobody could have fetched fewer than {known}: at most {times} times as many."
-                )
-            }
-            Sentence::Promised(s) => {
-                let times = Amount::Times(s.places);
-                let places = Amount::Places(s.places);
-                write!(f, "Promised: at most {times} as anybody with {places}.")
-            }
-            Sentence::Tightest(s) => {
-                let tight = Amount::Places(s.tight);
-                let bound = Bound { of: s };
-                let allowed = s.allowed;
-                write!(
-                    f,
-                    "Tightest for this day against {tight}: {bound}, so at most {allowed}."
-                )
-            }
-            Sentence::Needed(s) => {
-                let known = s.known;
-                let places = Amount::Places(s.needed);
-                write!(f, "To fetch no more than {known} the house needs {places}.")
-            }
+            Sentence::Counts(s) => write!(
+                f,
+                "{} for {}.",
+                Amount::Requests(s.requests),
+                Amount::Pages(s.different)
+            ),
+            Sentence::Fewest(s) => write!(
+                f,
+                "With {} the house fetched {}, and nobody could have fetched fewer.",
+                Amount::Places(s.places),
+                s.house
+            ),
+            Sentence::Fetched(s) => write!(
+                f,
+                "With {} the house fetched {}, and nobody could have fetched fewer than {}: at most {} times as many.",
+                Amount::Places(s.places),
+                s.house,
+                s.known,
+                Hundredths(s.hundredths)
+            ),
+            Sentence::Promised(s) => write!(
+                f,
+                "Promised: at most {} as anybody with {}.",
+                Amount::Times(s.places),
+                Amount::Places(s.places)
+            ),
+            Sentence::Tightest(s) => write!(
+                f,
+                "Tightest for this day against {}: {}, so at most {}.",
+                Amount::Places(s.tight),
+                Bound(*s),
+                s.allowed
+            ),
+            Sentence::Needed(s) => write!(
+                f,
+                "To fetch no more than {} the house needs {}.",
+                s.known,
+                Amount::Places(s.needed)
+            ),
         }
     }
 }
@@ -83,9 +78,10 @@ fn fetched(s: Summary) -> Sentence
     ensures value { result ≡ fetched_sentence s }
 {
     if s.house == s.known {
-        return Sentence::Fewest(s);
+        Sentence::Fewest(s)
+    } else {
+        Sentence::Fetched(s)
     }
-    Sentence::Fetched(s)
 }
 
 // Adds the paragraph to the text.
@@ -93,19 +89,13 @@ pub fn tell(s: Summary, text: &mut String) -> fmt::Result
     ensures lines { is_ok result ≡ true → string_bytes text.new ≡ string_bytes text.old ++ paragraph s }
 {
     if s.requests == 0 {
-        let nothing = Sentence::Nothing;
-        writeln!(text, "{nothing}")?;
+        writeln!(text, "{}", Sentence::Nothing)?;
         return Ok(());
     }
-    let counts = Sentence::Counts(s);
-    writeln!(text, "{counts}")?;
-    let fetched = fetched(s);
-    writeln!(text, "{fetched}")?;
-    let promised = Sentence::Promised(s);
-    writeln!(text, "{promised}")?;
-    let tightest = Sentence::Tightest(s);
-    writeln!(text, "{tightest}")?;
-    let needed = Sentence::Needed(s);
-    writeln!(text, "{needed}")?;
+    writeln!(text, "{}", Sentence::Counts(s))?;
+    writeln!(text, "{}", fetched(s))?;
+    writeln!(text, "{}", Sentence::Promised(s))?;
+    writeln!(text, "{}", Sentence::Tightest(s))?;
+    writeln!(text, "{}", Sentence::Needed(s))?;
     Ok(())
 }

@@ -4,14 +4,14 @@ ghost use Rattle.std.specs.Result.{result_err};
 ghost use Rattle.curve.specs.Refused.{refusal};
 ghost use Rattle.summary.specs.Counted.{Says};
 
-use crate::reads::read;
+use crate::reads::Report;
 use curve::MAX_CAPACITIES;
 use lru_cache::Refusal;
 
 // The most numbers that a report has.
 const REPORT_LEN: usize = 2 * MAX_CAPACITIES;
 
-#[derive(Clone, Copy)]
+#[derive(Clone, Copy, Debug, PartialEq, Eq)]
 pub struct Summary {
     // how many requests there were ..
     pub requests: u64,
@@ -41,7 +41,13 @@ pub fn summarize(trace: &[u64], k: usize) -> Result<Summary, Refusal>
     ensures says { IfOk result (λ s. Says trace.now k s) }
 {
     curve::check(trace, k, REPORT_LEN)?;
-    let mut row = [0u64; REPORT_LEN];
+    let mut row = [0; REPORT_LEN];
     belady::report(trace, MAX_CAPACITIES, &mut row)?;
-    Ok(read(trace, k, &row))
+    let (house, known) = row.split_at(MAX_CAPACITIES);
+    let report = Report {
+        trace,
+        house,
+        known,
+    };
+    Ok(report.read(k))
 }

@@ -1,41 +1,35 @@
 // Pictures of days, and where there is none.
 use belady::report;
 use picture::draw;
+use traces::TEN;
 
 pub fn show_pictures(rt: &HostRuntime) -> anyhow::Result<()> {
-    let ten = [1, 2, 3, 1, 4, 1, 2, 5, 3, 1];
-    show(
+    show_day(
         rt,
         "ten requests up to 4 places, with a mark at 3",
-        &ten,
+        &TEN,
         4,
         3,
     )?;
-    show(rt, "one request, 1 place", &[7], 1, 1)?;
-    show(rt, "no request, 2 places, with a mark at 3", &[], 2, 3)?;
-    show(rt, "4096 requests up to 4096 places", &[9; 4096], 4096, 1)?;
-    no_row(rt, "a row one too short", 5)?;
-    no_row(rt, "no capacity", 0)?;
-    no_row(rt, "4097 capacities", 4097)
+    show_day(rt, "one request, 1 place", &[7], 1, 1)?;
+    show_day(rt, "no request, 2 places, with a mark at 3", &[], 2, 3)?;
+    show_day(rt, "4096 requests up to 4096 places", &[9; 4096], 4096, 1)?;
+    show(rt, "a row one too short", &[1; 9], 5, 1)?;
+    show(rt, "no capacity", &[1; 9], 0, 1)?;
+    show(rt, "4097 capacities", &[1; 9], 4097, 1)
 }
 
-fn show(rt: &HostRuntime, name: &str, trace: &[u64], m: usize, k: usize) -> anyhow::Result<()> {
-    println!(rt; "{name}:")?;
+// The picture of a day's report.
+fn show_day(rt: &HostRuntime, name: &str, trace: &[u64], m: usize, k: usize) -> anyhow::Result<()> {
     let mut row = [0; 8192];
-    let mut text = String::new(rt.alloc());
-    if report(trace, m, &mut row).is_ok() {
-        let drawn = draw(&row, m, k, &mut text)?;
-        println!(rt; "drawn {drawn}")?;
-    }
-    rt.print(&text)?;
-    Ok(())
+    report(trace, m, &mut row)?;
+    show(rt, name, &row, m, k)
 }
 
-// A row of nine numbers.
-fn no_row(rt: &HostRuntime, name: &str, m: usize) -> anyhow::Result<()> {
+fn show(rt: &HostRuntime, name: &str, row: &[u64], m: usize, k: usize) -> anyhow::Result<()> {
     println!(rt; "{name}:")?;
     let mut text = String::new(rt.alloc());
-    let drawn = draw(&[1; 9], m, 1, &mut text)?;
+    let drawn = draw(row, m, k, &mut text)?;
     println!(rt; "drawn {drawn}")?;
     rt.print(&text)?;
     Ok(())

@@ -1,1 +1,2 @@
 mod Gone
+mod Near

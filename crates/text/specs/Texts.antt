@@ -2,58 +2,59 @@
 -- nothing: these are definitions.
 --     State               what is known after some of a text
 --     begin               before its first byte
---     with_digit n b      the number n with one byte more: 2^32 where the byte is no digit, or the number is 2^32 or more
---     number_from n word  and with all the bytes of a word: from 0, the number that the word is
+--     with_digit n b      the number n with one byte more: none where the byte is no digit, or the number is 2^32 or more
+--     number_from n word  and with all the bytes of a word: from 0, the number that the word is, where it is a page
 --     with_byte s b       the word goes on
 --     page_of s           the page that the word is, where it ends and is one
---     end_word s l c      the word ends, and line l follows, in a comment or not; a word that is no page is kept, and nothing more is read
+--     end_word s l m      the word ends, and line l follows, in words or in a comment; a word that is no page is kept, and nothing more is read
 --     blank b             b is a space, a tab or a carriage return
 --     page_at s b         the page that byte b ends
 --     step s b            after one byte more
+--     is_bad s            a word ended that is no page
 --     pages_from s text   the pages that the text goes on to name, up to the first word that is none
 --     after s text        and what is known then
 --     pages_in text       the pages of a whole text; its last line may lack its line break
 use Rattle.std.specs.Prelude.{ℕ, ◌+◌, ◌-◌, ◌*◌, ◌^◌, min, Bool, true, false, cond, ◌&&◌, ◌||◌, List, [], ◌∷◌, ◌++◌, length, take, Some, None, Option, ◌==◌, nat_le, nat_lt}
-use Rattle.std.specs.Option.{option_to_list}
+use Rattle.std.specs.Option.{is_none, option_and_then, option_to_list}
+use Rattle.text.specs.declared.readers.Mode.{Mode}
+use Rattle.text.specs.declared.readers.Mode.TheVariants.{Words, Comment, Bad}
 
 pub record State : Type 0 where
   -- the number of the line; one of 2^64 and more is not told apart
   pub line : ℕ
-  pub comment : Bool
-  -- the first 41 bytes of the word that was begun, and the number that all its bytes are
+  -- what is read: words, a comment, or nothing more where a word ended that is no page: it is the one that is told
+  pub mode : Mode
+  -- the first 41 bytes of the word that was begun, and the page that all its bytes are
   pub told : List ℕ
-  pub value : ℕ
-  -- a word ended that is no page: it is the one that is told
-  pub bad : Bool
+  pub value : Option ℕ
 
 abbrev pub begin : State
-begin = record { line = 1; comment = false; told = []; value = 0; bad = false }
+begin = record { line = 1; mode = Words; told = []; value = Some 0 }
 
-abbrev pub with_digit : ℕ → ℕ → ℕ
-with_digit n b = cond (nat_le 48 b && nat_le b 57) (min (10 * n + (b - 48)) 4294967296) 4294967296
+abbrev pub with_digit : ℕ → ℕ → Option ℕ
+with_digit n b = cond (nat_le 48 b && (nat_le b 57 && nat_lt (10 * n + (b - 48)) 4294967296)) (Some (10 * n + (b - 48))) None
 
-abbrev pub number_from : ℕ → List ℕ → ℕ
-number_from n [] = n
-number_from n (b ∷ word) = number_from (with_digit n b) word
+abbrev pub number_from : ℕ → List ℕ → Option ℕ
+number_from n [] = Some n
+number_from n (b ∷ word) = option_and_then (λ m. number_from m word) (with_digit n b)
 
 abbrev pub with_byte : State → ℕ → State
 with_byte s b =
     record {
       line = s.line;
-      comment = s.comment;
+      mode = s.mode;
       told = take 41 (s.told ++ (b ∷ []));
-      value = with_digit s.value b;
-      bad = s.bad;
+      value = option_and_then (λ n. with_digit n b) s.value;
     }
 
 abbrev pub page_of : State → Option ℕ
-page_of s = cond (length s.told == 0) None (cond (nat_lt s.value 4294967296) (Some s.value) None)
+page_of s = cond (length s.told == 0) None s.value
 
-abbrev pub end_word : State → ℕ → Bool → State
-end_word s line comment =
-    cond (nat_lt 0 (length s.told) && nat_le 4294967296 s.value)
-    (record { line = s.line; comment = s.comment; told = s.told; value = s.value; bad = true })
-    (record { line = line; comment = comment; told = []; value = 0; bad = s.bad })
+abbrev pub end_word : State → ℕ → Mode → State
+end_word s line mode =
+    cond (nat_lt 0 (length s.told) && is_none s.value)
+    (record { line = s.line; mode = Bad; told = s.told; value = s.value })
+    (record { line = line; mode = mode; told = []; value = Some 0 })
 
 abbrev pub blank : ℕ → Bool
 blank b = b == 32 || (b == 9 || b == 13)
@@ -61,21 +62,32 @@ blank b = b == 32 || (b == 9 || b == 13)
 abbrev pub next_line : State → ℕ
 next_line s = min (s.line + 1) (2 ^ 64 - 1)
 
+abbrev pub page_in : Mode → State → ℕ → Option ℕ
+page_in Words s b = cond (b == 10 || (b == 35 || blank b)) (page_of s) None
+page_in Comment s b = cond (b == 10) (page_of s) None
+page_in Bad s b = None
+
 abbrev pub page_at : State → ℕ → Option ℕ
-page_at s b =
-    cond s.bad None
-    (cond (b == 10) (page_of s)
-    (cond s.comment None
-    (cond (b == 35) (page_of s)
-    (cond (blank b) (page_of s) None))))
+page_at s b = page_in s.mode s b
+
+abbrev pub step_in : Mode → State → ℕ → State
+step_in Words s b =
+    cond (b == 10) (end_word s (next_line s) Words)
+    (cond (b == 35) (end_word s s.line Comment)
+    (cond (blank b) (end_word s s.line Words) (with_byte s b)))
+step_in Comment s b = cond (b == 10) (end_word s (next_line s) Words) s
+step_in Bad s b = s
 
 abbrev pub step : State → ℕ → State
-step s b =
-    cond s.bad s
-    (cond (b == 10) (end_word s (next_line s) false)
-    (cond s.comment s
-    (cond (b == 35) (end_word s s.line true)
-    (cond (blank b) (end_word s s.line false) (with_byte s b)))))
+step s b = step_in s.mode s b
+
+abbrev pub bad_in : Mode → Bool
+bad_in Words = false
+bad_in Comment = false
+bad_in Bad = true
+
+abbrev pub is_bad : State → Bool
+is_bad s = bad_in s.mode
 
 unfoldable pub pages_from : State → List ℕ → List ℕ
 pages_from s [] = []

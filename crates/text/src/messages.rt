@@ -1,9 +1,10 @@
 // What is said of a word that is no page.
 ghost use Rattle.std.specs.Prelude.{◌≡◌, true, ◌++◌, map, is_ok, string_bytes};
+ghost use Rattle.text.specs.Texts.{is_bad};
 ghost use Rattle.text.specs.Messages.{shown, dots, bad_line};
 ghost use Rattle.text.specs.Readers.{state_of};
 
-use crate::readers::Reader;
+use crate::readers::{Mode, Reader};
 use std::fmt;
 
 // How many bytes of a word are told.
@@ -13,7 +14,7 @@ fn shown(byte: u8) -> char
     ensures value { result ≡ shown byte }
 {
     match byte {
-        b' '..=b'~' => byte as char,
+        b' '..=b'~' => byte.into(),
         _ => '?',
     }
 }
@@ -22,10 +23,8 @@ fn shown(byte: u8) -> char
 fn tell_bytes(bytes: &[u8], text: &mut String) -> fmt::Result
     ensures after { is_ok result ≡ true → string_bytes text.new ≡ string_bytes text.old ++ map shown bytes.now }
 {
-    for i in 0..bytes.len() {
-        if text.push(shown(bytes[i])).is_err() {
-            return Err(fmt::Error);
-        }
+    for &byte in bytes {
+        text.push(shown(byte))?;
     }
     Ok(())
 }
@@ -40,20 +39,23 @@ fn dots(length: usize) -> &'static str
 impl Reader {
     // A word ended that is no page, and nothing more is read.
     pub fn is_bad(&self) -> bool
-        ensures value { result ≡ (state_of self.now).bad }
+        ensures value { result ≡ is_bad (state_of self.now) }
     {
-        self.bad
+        self.mode == Mode::Bad
     }
 
     // Adds what is said of that word to the text.
     pub fn tell_bad(&self, text: &mut String) -> fmt::Result
         ensures after { is_ok result ≡ true → string_bytes text.new ≡ string_bytes text.old ++ bad_line (state_of self.now) }
     {
-        let line = self.line;
-        write!(text, "{line}: '")?;
-        tell_bytes(&self.word[0..self.length.min(TOLD)], text)?;
-        let more = dots(self.length);
-        write!(text, "{more}' is not a page number (0 to 4294967295)")?;
+        write!(text, "{}: '", self.line)?;
+        let word = self.word.as_slice();
+        tell_bytes(&word[..TOLD.min(word.len())], text)?;
+        write!(
+            text,
+            "{}' is not a page number (0 to 4294967295)",
+            dots(word.len())
+        )?;
         Ok(())
     }
 }

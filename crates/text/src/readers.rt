@@ -3,21 +3,30 @@ ghost use Rattle.std.specs.Prelude.{◌≡◌, ◌≤◌, min, ◌++◌, length,
 ghost use Rattle.text.specs.Texts.{begin, pages_from, after};
 ghost use Rattle.text.specs.Readers.{state_of};
 
-// How many bytes of a word are kept, to tell one that is no page: one more than are told.
-pub(crate) const KEPT: usize = 41;
+use arrayvec::ArrayVec;
 
-#[derive(Drop)]
+// How many bytes of a word are kept, to tell one that is no page: one more than are told.
+const KEPT: usize = 41;
+
+// What is read.
+#[derive(Clone, Copy, Debug, PartialEq, Eq)]
+pub(crate) enum Mode {
+    // words, each of which names a page
+    Words,
+    // a comment, up to the end of the line
+    Comment,
+    // nothing more: a word ended that is no page
+    Bad,
+}
+
+#[derive(Debug, Drop)]
 pub struct Reader {
     // the line that is read, from 1
     pub(crate) line: u64,
-    // behind `#`, up to the end of the line
-    pub(crate) comment: bool,
-    // the word that was begun: how many of its first bytes are kept, those, and the number that it is, or 2^32
-    pub(crate) length: usize,
-    pub(crate) word: [u8; KEPT],
-    pub(crate) value: u64,
-    // a word ended that is no page
-    pub(crate) bad: bool,
+    pub(crate) mode: Mode,
+    // the first bytes of the word that was begun, and the page that all its bytes are
+    pub(crate) word: ArrayVec<u8, KEPT>,
+    pub(crate) page: Option<u32>,
 }
 
 impl Reader {
@@ -27,11 +36,9 @@ impl Reader {
     {
         Reader {
             line: 1,
-            comment: false,
-            length: 0,
-            word: [0; KEPT],
-            value: 0,
-            bad: false,
+            mode: Mode::Words,
+            word: ArrayVec::new(),
+            page: Some(0),
         }
     }
 
@@ -42,13 +49,14 @@ impl Reader {
         ensures written { pages.new ≡ pages_from (state_of self.old) (take (length pages.old) bytes.now) ++ drop result pages.old }
         ensures after { state_of self.new ≡ after (state_of self.old) (take (length pages.old) bytes.now) }
     {
+        let piece = &bytes[..pages.len().min(bytes.len())];
+        // The caller lends the row, and fewer pages than bytes are written, so they are counted.
         let mut count = 0;
-        for i in 0..bytes.len().min(pages.len()) {
-            let Some(page) = self.step(bytes[i]) else {
-                continue;
-            };
-            pages[count] = page;
-            count += 1;
+        for &byte in piece {
+            if let Some(page) = self.step(byte) {
+                pages[count] = page;
+                count += 1;
+            }
         }
         count
     }

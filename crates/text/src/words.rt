@@ -3,30 +3,27 @@ ghost use Rattle.std.specs.Prelude.{◌≡◌};
 ghost use Rattle.text.specs.Texts.{with_digit, number_from, with_byte, page_of, end_word, page_at, step};
 ghost use Rattle.text.specs.Readers.{state_of};
 
-use crate::readers::{KEPT, Reader};
+use crate::readers::{Mode, Reader};
 
-// The first number that is no page.
-const NO_PAGE: u64 = 4294967296;
-
-// The number with one byte more.
-fn with_digit(number: u64, byte: u8) -> u64
+// The number with one byte more, where that is a page.
+fn with_digit(number: u32, byte: u8) -> Option<u32>
     ensures value { result ≡ with_digit number byte }
 {
     match byte {
-        b'0'..=b'9' => (number.min(NO_PAGE) * 10 + (byte - b'0') as u64).min(NO_PAGE),
-        _ => NO_PAGE,
+        b'0'..=b'9' => number.checked_mul(10)?.checked_add(u32::from(byte - b'0')),
+        _ => None,
     }
 }
 
-// The number that a word is, or 2^32 where it is no page.
-pub fn number(word: &[u8]) -> u64
+// The number that a word is, where it is a page.
+pub fn number(word: &[u8]) -> Option<u64>
     ensures value { result ≡ number_from 0 word.now }
 {
     let mut number = 0;
-    for i in 0..word.len() {
-        number = with_digit(number, word[i]);
+    for &byte in word {
+        number = with_digit(number, byte)?;
     }
-    number
+    Some(number.into())
 }
 
 impl Reader {
@@ -34,29 +31,29 @@ impl Reader {
     fn put(&mut self, byte: u8)
         ensures after { state_of self.new ≡ with_byte (state_of self.old) byte }
     {
-        self.value = with_digit(self.value, byte);
-        if self.length < KEPT {
-            self.word[self.length] = byte;
-            self.length += 1;
-        }
+        self.page = self.page.and_then(|number| with_digit(number, byte));
+        // Where the word is as long as what is kept of it, its further bytes are not.
+        let _ = self.word.try_push(byte);
     }
 
     // The word ends, where there is one, and the text goes on in that line.
-    fn end_word(&mut self, line: u64, comment: bool) -> Option<u64>
+    fn end_word(&mut self, line: u64, mode: Mode) -> Option<u64>
         ensures value { result ≡ page_of (state_of self.old) }
-        ensures after { state_of self.new ≡ end_word (state_of self.old) line comment }
+        ensures after { state_of self.new ≡ end_word (state_of self.old) line mode }
     {
-        let found = self.length > 0;
-        let value = self.value;
-        if found && value >= NO_PAGE {
-            self.bad = true;
+        let page = if self.word.is_empty() {
+            None
+        } else if self.page.is_none() {
+            self.mode = Mode::Bad;
             return None;
-        }
+        } else {
+            self.page
+        };
         self.line = line;
-        self.comment = comment;
-        self.length = 0;
-        self.value = 0;
-        if found { Some(value) } else { None }
+        self.mode = mode;
+        self.word.clear();
+        self.page = Some(0);
+        page.map(u64::from)
     }
 
     // One byte more, and the page that it ends.
@@ -64,19 +61,13 @@ impl Reader {
         ensures value { result ≡ page_at (state_of self.old) byte }
         ensures after { state_of self.new ≡ step (state_of self.old) byte }
     {
-        if self.bad {
-            return None;
-        }
-        if byte == b'\n' {
-            return self.end_word(self.line.saturating_add(1), false);
-        }
-        if self.comment {
-            return None;
-        }
-        match byte {
-            b'#' => self.end_word(self.line, true),
-            b' ' | b'\t' | b'\r' => self.end_word(self.line, false),
-            _ => {
+        match (self.mode, byte) {
+            (Mode::Bad, _) => None,
+            (_, b'\n') => self.end_word(self.line.saturating_add(1), Mode::Words),
+            (Mode::Comment, _) => None,
+            (Mode::Words, b'#') => self.end_word(self.line, Mode::Comment),
+            (Mode::Words, b' ' | b'\t' | b'\r') => self.end_word(self.line, Mode::Words),
+            (Mode::Words, _) => {
                 self.put(byte);
                 None
             }

@@ -1,47 +1,53 @@
 // Arguments of both programs, and what is said of them.
-use options::{Given, Opt, Program};
+use options::{Given, Program};
 use std::alloc::{AllocError, Global};
 use std::{fmt, io};
+use wrongs::Message;
 
 fn split(heap: Global, line: &str) -> Result<Vec<String>, AllocError> {
-    let mut words = Vec::new(heap);
-    for word in line.split(' ') {
-        words.push(String::from_str(heap, word)?)?;
-    }
-    Ok(words)
+    line.split(' ')
+        .map(|word| String::from_str(heap, word))
+        .try_collect(heap)
 }
 
-fn value(given: &Given, name: &str, option: Opt, said: &mut String) -> fmt::Result {
-    if let Some(value) = given.get(option) {
-        write!(said, " {name} {value}")?;
+// Adds what was given to the text: each option with its value, 1 where it takes none, or the place of the argument that names a file.
+fn tell_given(given: Given, said: &mut String) -> fmt::Result {
+    let values = [
+        ("file", given.file),
+        ("help", given.help.then_some(1)),
+        ("text", given.text.then_some(1)),
+        ("places", given.places),
+        ("report", given.report),
+        ("pack", given.pack.then_some(1)),
+        ("unpack", given.unpack.then_some(1)),
+        ("summary", given.summary.then_some(1)),
+        ("svg", given.svg),
+        ("rival", given.rival),
+        ("rounds", given.rounds),
+        ("policy", given.policy.map(|kind| u8::from(kind) as usize)),
+    ];
+    for (name, value) in values {
+        if let Some(value) = value {
+            write!(said, " {name} {value}")?;
+        }
     }
     Ok(())
 }
 
 fn tell(program: Program, words: &[String], said: &mut String) -> fmt::Result {
     match Given::read(program, words) {
-        Ok(given) => {
-            value(&given, "file", Opt::File, said)?;
-            value(&given, "help", Opt::Help, said)?;
-            value(&given, "text", Opt::Text, said)?;
-            value(&given, "places", Opt::Places, said)?;
-            value(&given, "report", Opt::Report, said)?;
-            value(&given, "pack", Opt::Pack, said)?;
-            value(&given, "unpack", Opt::Unpack, said)?;
-            value(&given, "summary", Opt::Summary, said)?;
-            value(&given, "svg", Opt::Svg, said)?;
-            value(&given, "rival", Opt::Rival, said)?;
-            value(&given, "rounds", Opt::Rounds, said)?;
-            value(&given, "policy", Opt::Policy, said)
-        }
+        Ok(given) => tell_given(given, said),
         Err(wrong) => {
-            let place = wrongs::place_at(wrong);
-            let mut word = "";
-            if place > 0 && place <= words.len() {
-                word = words[place - 1].as_str();
-            }
-            write!(said, " ")?;
-            wrongs::tell_wrong(wrong, program, word, said)
+            let word = wrongs::place_at(wrong)
+                .and_then(|place| words.get(place.checked_sub(1)?))
+                .map_or("", |word| word.as_str());
+            let message = Message {
+                wrong,
+                program,
+                word,
+            };
+            write!(said, " {message}")?;
+            Ok(())
         }
     }
 }
@@ -49,7 +55,7 @@ fn tell(program: Program, words: &[String], said: &mut String) -> fmt::Result {
 fn show(rt: &HostRuntime, program: Program, line: &str) -> io::Result<()> {
     let words = split(rt.alloc(), line)?;
     let mut said = String::new(rt.alloc());
-    let _ = tell(program, words.as_slice(), &mut said);
+    tell(program, words.as_slice(), &mut said)?;
     println!(rt; "{line}:{said}")
 }
 

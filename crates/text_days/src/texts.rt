@@ -5,12 +5,12 @@ use std::{fmt, io};
 use text::Reader;
 use trace::Header;
 
-// Reads a text in two pieces into the row, and says how many pages there are.
+// Reads a text in two pieces into the row, and says how many pages there are: a `Reader` writes to a row that it is lent.
 fn read_cut(reader: &mut Reader, text: &[u8], cut: usize, row: &mut [u64]) -> usize
     ensures { result ≤ length row.old }
 {
     let cut = cut.min(text.len());
-    let first = reader.read(&text[0..cut], row);
+    let first = reader.read(&text[..cut], row);
     let second = reader.read(&text[cut..], &mut row[first..]);
     let both = first + second;
     both + reader.read(b"\n", &mut row[both..])
@@ -20,7 +20,7 @@ fn tell(text: &[u8], cut: usize, said: &mut String) -> fmt::Result {
     let mut reader = Reader::new();
     let mut row = [0u64; 256];
     let n = read_cut(&mut reader, text, cut, &mut row);
-    for page in &row[0..n] {
+    for page in &row[..n] {
         write!(said, " {page}")?;
     }
     if reader.is_bad() {
@@ -33,11 +33,11 @@ fn tell(text: &[u8], cut: usize, said: &mut String) -> fmt::Result {
 // What a text names, and each cut at which it would name something else: there is none.
 fn show(rt: &HostRuntime, name: &str, text: &str) -> io::Result<()> {
     let mut said = String::new(rt.alloc());
-    let _ = tell(text.as_bytes(), 0, &mut said);
+    tell(text.as_bytes(), 0, &mut said)?;
     println!(rt; "{name}:{said}")?;
     for cut in 1..text.len() {
         let mut again = String::new(rt.alloc());
-        let _ = tell(text.as_bytes(), cut, &mut again);
+        tell(text.as_bytes(), cut, &mut again)?;
         if again.as_str() != said.as_str() {
             println!(rt; "{name}, cut at {cut}:{again}")?;
         }
@@ -78,12 +78,12 @@ fn back(rt: &HostRuntime, name: &str, bytes: &[u8]) -> io::Result<()> {
         capacity: 40,
         reported: 3,
     };
-    let _ = convert::unpack_header(header, &mut text);
-    let _ = convert::unpack_bytes(bytes, &mut text);
+    convert::unpack_header(header, &mut text)?;
+    convert::unpack_bytes(bytes, &mut text)?;
     let mut reader = Reader::new();
     let mut out = [0u8; 1024];
     let n = convert::pack_text(&mut reader, text.as_bytes(), &mut out);
-    let same = if &out[0..n] == bytes {
+    let same = if &out[..n] == bytes {
         "the same"
     } else {
         "another"

@@ -1,4 +1,5 @@
 pub mod Headers
+pub mod Kinds
 pub mod Lines
 pub mod Requests
 pub mod Settings

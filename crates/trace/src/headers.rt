@@ -2,7 +2,7 @@
 ghost use Rattle.std.specs.Prelude.{◌≡◌};
 ghost use Rattle.trace.specs.Headers.{header_of};
 
-#[derive(Clone, Copy)]
+#[derive(Clone, Copy, Debug, PartialEq, Eq)]
 pub struct Header {
     // how many places the cache has
     pub capacity: usize,
@@ -10,7 +10,8 @@ pub struct Header {
     pub reported: usize,
 }
 
-// The header that the bytes begin with, where they are four or more.
+// The header that the bytes begin with, where they are four or more. An `Option`, since how many bytes there are is all that can be wrong, and
+// the caller knows it.
 pub fn read_header(bytes: &[u8]) -> Option<Header>
     ensures value { result ≡ header_of bytes.now }
 {
@@ -18,7 +19,7 @@ pub fn read_header(bytes: &[u8]) -> Option<Header>
         return None;
     };
     Some(Header {
-        capacity: *a as usize + 256 * *b as usize,
-        reported: *c as usize + 256 * *d as usize,
+        capacity: usize::from(u16::from_le_bytes([*a, *b])),
+        reported: usize::from(u16::from_le_bytes([*c, *d])),
     })
 }

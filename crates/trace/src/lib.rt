@@ -4,16 +4,18 @@
 // the bytes mean is in specs/Requests.antt and specs/Headers.antt. `Line` is a line of the output, and specs/Lines.antt has its
 // bytes.
 //
-// A challenge is set by seven bytes (`read_settings`), and ends in a line with its counts (`Totals`).
+// A challenge is set by seven bytes (`read_settings`), is against a `PolicyKind`, and ends in a line with its counts (`Totals`).
 #![tactic(auto)]
 
 mod headers;
+mod kinds;
 mod lines;
 mod requests;
 mod settings;
 mod totals;
 
 pub use headers::{Header, read_header};
+pub use kinds::{PolicyKind, UnknownPolicy};
 pub use lines::Line;
 pub use requests::decode;
 pub use settings::{Settings, read_settings};

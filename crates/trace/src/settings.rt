@@ -2,7 +2,7 @@
 ghost use Rattle.std.specs.Prelude.{◌≡◌};
 ghost use Rattle.trace.specs.Settings.{settings_of};
 
-#[derive(Clone, Copy)]
+#[derive(Clone, Copy, Debug, PartialEq, Eq)]
 pub struct Settings {
     // how many places the policy has
     pub capacity: u16,
@@ -10,11 +10,12 @@ pub struct Settings {
     pub places: u16,
     // how many rounds are played
     pub rounds: u16,
-    // the policy's number
+    // the policy's number as it was read, which may be no `PolicyKind`'s: an option may stand over it before it is used
     pub policy: u8,
 }
 
-// The settings that the bytes are, where they are seven.
+// The settings that the bytes are, where they are seven. An `Option`, since how many bytes there are is all that can be wrong, and the caller
+// knows it.
 pub fn read_settings(bytes: &[u8]) -> Option<Settings>
     ensures value { result ≡ settings_of bytes.now }
 {
@@ -22,9 +23,9 @@ pub fn read_settings(bytes: &[u8]) -> Option<Settings>
         return None;
     };
     Some(Settings {
-        capacity: *a as u16 + 256 * *b as u16,
-        places: *c as u16 + 256 * *d as u16,
-        rounds: *e as u16 + 256 * *f as u16,
+        capacity: u16::from_le_bytes([*a, *b]),
+        places: u16::from_le_bytes([*c, *d]),
+        rounds: u16::from_le_bytes([*e, *f]),
         policy: *policy,
     })
 }

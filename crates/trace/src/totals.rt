@@ -4,7 +4,7 @@ ghost use Rattle.trace.specs.Totals.{totals_bytes};
 
 use std::fmt;
 
-#[derive(Clone, Copy)]
+#[derive(Clone, Copy, Debug, PartialEq, Eq)]
 pub struct Totals {
     // how many requests there were
     pub asked: u64,
@@ -18,9 +18,11 @@ impl fmt::Display for Totals {
     ghost output = { λ t. Some (totals_bytes t) };
 
     fn fmt<W: fmt::Write>(&self, f: &mut fmt::Formatter<W>) -> fmt::Result {
-        let asked = self.asked;
-        let keeper = self.keeper;
-        let rival = self.rival;
+        let Totals {
+            asked,
+            keeper,
+            rival,
+        } = self;
         write!(f, "asked {asked} keeper {keeper} rival {rival}")
     }
 }

@@ -1,20 +1,14 @@
 -- What is said of wrong arguments. Assumes nothing: these are definitions.
---     program_name p           the program as it is called
 --     wants option             what it takes for a value
---     place_at wrong           which argument is at fault, 0 where none is
+--     place_at wrong           which argument is at fault, where one is
 --     wrong_line p wrong word  what is said, without the line break; word is the argument at fault
-use Rattle.std.specs.Prelude.{ℕ, cond, List, ◌++◌, codes, decimal, ◌==◌}
-use Rattle.options.specs.Names.{name_of}
+use Rattle.std.specs.Prelude.{ℕ, cond, List, ◌++◌, codes, decimal, Some, None, Option, ◌==◌}
+use Rattle.options.specs.Names.{program_name, name_of}
 use Rattle.options.specs.declared.names.Program.{Program}
-use Rattle.options.specs.declared.names.Program.TheVariants.{Play, Challenge}
 use Rattle.options.specs.declared.names.Opt.{Opt}
 use Rattle.options.specs.declared.names.Opt.TheVariants.{File, Help, Text, Places, Report, Pack, Unpack, Summary, Svg, Rival, Rounds, Policy}
 use Rattle.options.specs.declared.values.Wrong.{Wrong}
 use Rattle.options.specs.declared.values.Wrong.TheVariants.{Unknown, Value, Missing, SecondFile, Together}
-
-abbrev pub program_name : Program → List ℕ
-program_name Play = codes "play"
-program_name Challenge = codes "challenge"
 
 abbrev pub wants : Opt → List ℕ
 wants File = codes "no value"
@@ -30,12 +24,12 @@ wants Rival = codes "a number from 1 to 4096"
 wants Rounds = codes "a number from 0 to 65535"
 wants Policy = codes "lru, fifo or lfu"
 
-abbrev pub place_at : Wrong → ℕ
-place_at (Unknown i) = i
-place_at (Value o i) = i
-place_at (Missing o) = 0
-place_at (SecondFile i) = i
-place_at (Together a b) = 0
+abbrev pub place_at : Wrong → Option ℕ
+place_at (Unknown i) = Some i
+place_at (Value o i) = Some i
+place_at (Missing o) = None
+place_at (SecondFile i) = Some i
+place_at (Together a b) = None
 
 -- two arguments where one is wanted, or two files among options
 abbrev pub at_most_one : ℕ → List ℕ

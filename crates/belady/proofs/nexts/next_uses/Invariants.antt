@@ -1,9 +1,6 @@
-use Rattle.std.proofs.Common.{◌≡◌}
-use Rattle.belady.proofs.Known.{Known, Passed}
+use Rattle.std.proofs.Common.{◌≡◌, ℕ, ◌<◌, get_or}
+use Rattle.belady.specs.Ahead.{next_at}
 use Rattle.belady.proofs.nexts.next_uses.Given as goal
 
-abbrev pub invariant-next : goal.invariant-next
-invariant-next l = Passed l.trace l.i l.j × (l.next ≡ l.initial.next)
-
-abbrev pub invariant-day : goal.invariant-day
-invariant-day l = Known l.trace l.initial.next l.i l.next
+abbrev pub invariant-loop-i : goal.invariant-loop-i
+invariant-loop-i l = (k : ℕ) → k < l.i → get_or l.at-items k 0 ≡ next_at l.trace k

@@ -1,6 +1,29 @@
-use Rattle.std.proofs.Common.{arith}
+use Rattle.std.proofs.Common.{◌∙◌, arith}
 use Rattle.paging.proofs.Belady.{fewest}
+use Rattle.belady.proofs.Totals.{fetched_none, fetched_here, fetched_more, fetched_all}
 use Rattle.belady.proofs.rule.fetches.Goals as goal
+use Rattle.belady.proofs.rule.fetches.Goals.{then-request, else-request}
+
+pub loop-i-init : goal.loop-i-init
+loop-i-init c =
+    let new = c.new-cache.ensures in
+    record { ready = new.ready c.args.trace.now; places = new.places; so_far = fetched_none _ _ _ new.none }
+
+pub loop-i-preserved : goal.loop-i-preserved
+loop-i-preserved c =
+    let inv = c.loop-i.invariant in
+    let r = c.request.ensures in
+    let places = r.places ∙ inv.places in
+    elim c.if-request.branch [
+      | then-request w ↦
+          let more = fetched_more _ _ _ _ _ inv.so_far c.loop-i-test.true _ inv.places _ r.after _ r.value w.if-request.true in
+          rw w.fetched-is (record { ready = r.ready; places = places; so_far = more })
+      | else-request w ↦
+          let here = fetched_here _ _ _ _ _ inv.so_far c.loop-i-test.true _ inv.places _ r.after _ r.value w.if-request.false in
+          rw w.fetched-is (record { ready = r.ready; places = places; so_far = here })
+    ]
 
 pub returns : goal.returns
-returns c = let e = c.run.ensures.value in record { cases = (e, rw e (fewest c.args.h _ (omega arith))) }
+returns c =
+    let all = fetched_all _ _ _ _ _ c.loop-i.invariant.so_far (omega arith) in
+    record { cases = (all, rw all (fewest c.args.h _ (omega arith))) }

@@ -11,14 +11,14 @@ returns g c =
     let before = g.P.Policy.policy c.args.keeper.now [] in
     let shown = c.shown.result.now in
     let words =
-    c.tell-line.ensures.value
+    c.tell.ensures.value
     ∙ ap (λ (p : ℕ). said p c.before-2.result.now shown) c.page.ensures.value
     ∙ ap (λ (xs : List ℕ). said page xs shown) (c.before-2.ensures.value ∙ a.stepped.shown_is)
     ∙ ap (λ (xs : List ℕ). said page before xs) c.shown.ensures.value in
     record {
       stepped = a.stepped;
       served = a.served;
-      line = c.in_ok-add.ensures.bytes ∙ ap (λ (l : Line). string_bytes c.args.text.now ++ (line_bytes l ++ (10 ∷ []))) words;
+      line = c.in_ok-writeln.ensures.bytes ∙ ap (λ (l : Line). string_bytes c.args.text.now ++ (line_bytes l ++ (10 ∷ []))) words;
       refused = tt;
       same = tt;
     }

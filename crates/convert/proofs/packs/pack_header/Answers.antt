@@ -1,6 +1,5 @@
-use Rattle.std.proofs.Common.{rules}
 use Rattle.convert.proofs.Bytes.{header_back}
 use Rattle.convert.proofs.packs.pack_header.Goals as goal
 
-pub returns : goal.returns
-returns c = record { value = search rules; back = header_back }
+pub returns-clause-back : goal.returns-clause-back
+returns-clause-back c = header_back

@@ -1,12 +1,15 @@
 -- What the piece names is packed whole.
-use Rattle.std.proofs.Common.{ℕ, replicate, arith}
-use Rattle.std.proofs.lemmas.List.{length-replicate}
+use Rattle.std.proofs.Common.{◌≡◌, ℕ, ◌/◌, ◌≤◌, min, length, take, replicate, arith}
+use Rattle.std.proofs.lemmas.List.{length-take, length-replicate}
+use Rattle.text.specs.Texts.{pages_from}
 use Rattle.text.specs.Readers.{state_of}
-use Rattle.convert.proofs.Parts.{text_packed}
+use Rattle.convert.proofs.Parts.{named_packed}
 use Rattle.convert.proofs.pieces.pack_text.Goals as goal
 
-pub returns : goal.returns
-returns c =
+pub returns-clause-written : goal.returns-clause-written
+returns-clause-written c =
     let read = c.read-count.ensures in
-    let all = text_packed c.args.text.now c.args.out.now (replicate 16384 0) c.read-count.new.pages c.pack.new.out (state_of c.args.reader.now) (state_of c.read-count.new.self) c.min-room.result c.min-some.result c.read-count.result c.pack.result (length-replicate {A = ℕ} 16384 0) c.min-room.ensures c.min-some.ensures read.value read.bound read.written read.after c.pack.ensures.value c.pack.ensures.after in
-    record { value = all.0; bound = omega arith; written = all.1; after = all.2 }
+    let room : length (take c.min.result (replicate {A = ℕ} 16384 0)) ≡ min (length c.args.out.now / 4) 16384 = omega (arith, length-take {A = ℕ}, length-replicate {A = ℕ} 16384 0) in
+    let few : c.read-count.result ≤ length c.args.out.now / 4 = omega (arith, length-take {A = ℕ}, length-replicate {A = ℕ} 16384 0) in
+    named_packed _ _ _ _ (λ n. pages_from (state_of c.args.reader.now) (take n c.args.text.now)) _ _ c.read-count.result _
+    room read.written read.value few c.pack.ensures.value c.pack.ensures.after

@@ -1,5 +1,5 @@
 use Rattle.curve.proofs.Sums.{Settled}
 use Rattle.curve.proofs.counts.settle.Given as goal
 
-abbrev pub invariant-loop-i : goal.invariant-loop-i
-invariant-loop-i l = Settled l.initial.hits l.requests l.i l.left l.hits
+abbrev pub invariant-loop-hit : goal.invariant-loop-hit
+invariant-loop-hit l = Settled l.initial.hits l.requests l.hit-index l.left l.hits

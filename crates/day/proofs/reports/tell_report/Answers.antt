@@ -1,4 +1,4 @@
-use Rattle.std.proofs.Common.{◌≡◌, ℕ, ◌-◌, ◌≤◌, List, ◌++◌, length, take, string_bytes, sym, ap, ◌∙◌, arith}
+use Rattle.std.proofs.Common.{ℕ, ◌≤◌, List, ◌++◌, length, take, string_bytes, sym, ap, ◌∙◌, arith}
 use Rattle.std.proofs.lemmas.List.{length-take}
 use Rattle.day.proofs.Reporting.{long_report, row_room, made_report, no_report}
 use Rattle.day.proofs.reports.tell_report.Goals as goal
@@ -10,9 +10,8 @@ returns-then-total c =
 
 pub tell_row-requires : goal.tell_row-requires
 tell_row-requires c =
-    let same : c.args.total - 0 ≡ c.args.total = omega arith in
     let few : length (take c.args.total c.args.first.now) ≤ 4096 = omega (arith, length-take c.args.total c.args.first.now) in
-    let r = rw same at c.in-Ok.ensures in
+    let r = c.in-Ok.ensures in
     let room = row_room (take c.args.total c.args.first.now) c.args.total c.args.m c.if-total.false few c.requires.small 8192 (omega arith) (sym r.refused) in
     record { long = omega arith }
 
@@ -20,10 +19,9 @@ pub returns-in-Ok : goal.returns-in-Ok
 returns-in-Ok c =
     let text = string_bytes c.args.text.now in
     let trace = take c.args.total c.args.first.now in
-    let same : c.args.total - 0 ≡ c.args.total = omega arith in
     let short : c.args.total ≤ 4096 = c.if-total.false in
     let few : length trace ≤ 4096 = omega (arith, length-take c.args.total c.args.first.now) in
-    let r = rw same at c.in-Ok.ensures in
+    let r = c.in-Ok.ensures in
     record {
       lines = λ ok. c.tell_row.ensures.lines ok
           ∙ ap (λ (ls : List ℕ). text ++ ls) (made_report trace c.args.total c.args.m short few c.requires.small 8192 (omega arith) _ _ (sym r.refused) r.says);
@@ -33,10 +31,9 @@ pub returns-in-Err : goal.returns-in-Err
 returns-in-Err c =
     let text = string_bytes c.args.text.now in
     let trace = take c.args.total c.args.first.now in
-    let same : c.args.total - 0 ≡ c.args.total = omega arith in
     let short : c.args.total ≤ 4096 = c.if-total.false in
     let few : length trace ≤ 4096 = omega (arith, length-take c.args.total c.args.first.now) in
-    let r = rw same at c.in-Err.ensures in
+    let r = c.in-Err.ensures in
     record {
       lines = λ ok. c.tell_refusal-in-Err.ensures.lines ok
           ∙ ap (λ (ls : List ℕ). text ++ ls) (no_report trace c.args.total c.args.m short few c.requires.small 8192 (omega arith) _ (sym r.refused));

@@ -1,31 +1,48 @@
-use Rattle.std.proofs.Common.{◌≡◌, ◌+◌, ◌-◌, ◌≤◌, [], get_or, sym, refl, ◌∙◌, arith}
-use Rattle.lru_cache.specs.Rows.{capacity, cached}
+use Rattle.std.proofs.Common.{◌≡◌, ℕ, ◌+◌, ◌-◌, ◌≤◌, false, List, [], get_or, None, Some, Option, Result, MatchOption, MatchResult, sym, refl, ◌∙◌, arith}
+use Rattle.std.specs.Option.{ok_or}
+use Rattle.std.proofs.lemmas.Result.{err_from_is_err_and}
+use Rattle.lru_cache.specs.Promises.{Shaped}
+use Rattle.lru_cache.specs.Rows.{capacity, cached, shaped}
+use Rattle.lru_cache.specs.declared.checks.Capacity.{Capacity}
+use Rattle.lru_cache.specs.declared.refusals.Refusal.{Refusal}
+use Rattle.lru_cache.specs.declared.refusals.Refusal.TheVariants.{NoCache}
 use Rattle.lru_cache.proofs.Faults.{fault_unshaped, fault_overfull, fault_pages, fine}
 use Rattle.lru_cache.proofs.checks.check.Goals as goal
 
-pub returns-in_default : goal.returns-in_default
-returns-in_default c = record { cases = fault_unshaped _ _ c.in_default.ensures.cases }
+-- what the shape says is handed on by `ok_or`
+shape_told :
+    (row : List ℕ) (m : ℕ) (o : Option Capacity) (r : Result Capacity Refusal) → MatchOption o (shaped row m ≡ false) (λ k. Shaped row m k.places) →
+    r ≡ ok_or o NoCache → MatchResult r (λ k. Shaped row m k.places) (λ e. (shaped row m ≡ false) × (e ≡ NoCache))
+shape_told row m None r bad is = rw is (bad, refl)
+shape_told row m (Some k) r good is = rw is good
+
+pub returns-in_err-k : goal.returns-in_err-k
+returns-in_err-k c =
+    let p = err_from_is_err_and c.from_residual.result c.from_residual.ensures.1 in
+    let s = shape_told c.args.cache.now c.args.index_len c.shape.result _ c.shape.ensures.cases c.in_err-k.ensures.value in
+    rw (p.1, p.2) (record { cases = rw s.1 (fault_unshaped _ _ s.0) })
 
 pub returns-then-n-k : goal.returns-then-n-k
 returns-then-n-k c =
-    let s = c.in-Some.ensures.cases in
+    let s = shape_told c.args.cache.now c.args.index_len c.shape.result _ c.shape.ensures.cases c.in_ok-k.ensures.value in
     record { cases = fault_overfull _ _ s.is (omega arith) }
 
-pub returns-in-Some-first_fault : goal.returns-in-Some-first_fault
-returns-in-Some-first_fault c =
-    let s = c.in-Some.ensures.cases in
+pub returns-in_err-first_fault : goal.returns-in_err-first_fault
+returns-in_err-first_fault c =
+    let p = err_from_is_err_and c.from_residual-in_err-first_fault.result c.from_residual-in_err-first_fault.ensures.1 in
+    let s = shape_told c.args.cache.now c.args.index_len c.shape.result _ c.shape.ensures.cases c.in_ok-k.ensures.value in
     let row = c.args.cache.now in
     let few : get_or row 1 0 ≤ capacity row = omega arith in
     let same : 2 + get_or row 1 0 - 2 ≡ get_or row 1 0 = omega arith in
-    record { cases = fault_pages row c.args.index_len s.is few ∙ sym (rw same at c.in-Some-first_fault.ensures.value) }
+    rw (p.1, p.2) (record { cases = fault_pages row c.args.index_len s.is few ∙ sym (rw same at c.in_err-first_fault.ensures.value) })
 
-pub returns-in-None : goal.returns-in-None
-returns-in-None c =
-    let s = c.in-Some.ensures.cases in
+pub returns : goal.returns
+returns c =
+    let s = shape_told c.args.cache.now c.args.index_len c.shape.result _ c.shape.ensures.cases c.in_ok-k.ensures.value in
     let row = c.args.cache.now in
     let few : get_or row 1 0 ≤ capacity row = omega arith in
     let same : 2 + get_or row 1 0 - 2 ≡ get_or row 1 0 = omega arith in
-    let none = sym (rw same at c.in-None.ensures.value) in
+    let none = sym (rw same at c.in_ok-first_fault.ensures.value) in
     let f = fine 2 [] (cached row) none in
     record {
       cases = record {

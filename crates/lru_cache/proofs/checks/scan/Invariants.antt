@@ -7,6 +7,5 @@ use Rattle.lru_cache.proofs.checks.scan.Given as goal
 -- the index holds the pages passed, and what is left decides
 abbrev pub invariant-loop-i : goal.invariant-loop-i
 invariant-loop-i l =
-    Sound l.k l.seen × (length (recent.pages l.seen) ≡ l.i)
+    Sound l.k.places l.seen × (length (recent.pages l.seen) ≡ l.i)
     × (first_bad (2 + l.i) (recent.pages l.seen) (drop l.i l.pages) ≡ first_bad 2 [] l.pages)
-    × (length l.seen ≡ length l.initial.seen)

@@ -1,9 +1,9 @@
 use Rattle.std.proofs.Common.{◌≡◌, get_or, set, ap, ◌∙◌, arith}
 use Rattle.recency.specs.Outcome.{outcome}
 use Rattle.recency.specs.Row as recent
-use Rattle.lru_cache.specs.Replies.{as_reply, fetches_of}
-use Rattle.lru_cache.specs.declared.replies.Reply.{Reply}
-use Rattle.lru_cache.proofs.Runs.{ran_more, ran_all, length_replies}
+use Rattle.recency.specs.declared.uses.Outcome.{Outcome}
+use Rattle.lru_cache.specs.Outcomes.{fetches_of}
+use Rattle.lru_cache.proofs.Runs.{ran_more, ran_all, length_outcomes}
 use Rattle.lru_cache.proofs.plays.run.Goals as goal
 
 pub loop-i-preserved : goal.loop-i-preserved
@@ -15,16 +15,14 @@ loop-i-preserved c =
     let inv = c.loop-i.invariant in
     let o = c.request-outcome.ensures.value in
     let cost : c.cost-fetches.result ≡ fetches_of (outcome k cache page) = c.cost-fetches.ensures.value ∙ ap fetches_of o in
-    let word : c.told.result ≡ as_reply (outcome k cache page) = c.told.ensures.value ∙ ap as_reply o in
-    let noted : c.note.new.replies ≡ set c.loop-i.replies i (as_reply (outcome k cache page)) =
-    c.note.ensures.after ∙ ap (λ (r : Reply). set c.loop-i.replies i r) word in
-    let ran = ran_more k c.args.trace.now (recent.pages c.args.index.now) c.args.replies.now i c.loop-i.fetches cache c.loop-i.replies inv.1 (omega arith) in (
+    let noted : c.note.new.found ≡ set c.loop-i.found i (outcome k cache page) = c.note.ensures.after ∙ ap (λ (x : Outcome). set c.loop-i.found i x) o in
+    let ran = ran_more k c.args.trace.now (recent.pages c.args.index.now) c.args.found.now i c.loop-i.fetches cache c.loop-i.found inv.1 (omega arith) in (
       c.request-outcome.ensures.sound,
       rw (cost, noted, c.request-outcome.ensures.after) ran,
       c.request-outcome.ensures.beyond ∙ inv.2,
       omega (arith, ran.few, cost),
       c.request-outcome.auto.row ∙ inv.4,
-      c.note.auto.replies ∙ inv.5,
+      c.note.auto.found ∙ inv.5,
     )
 
 pub returns : goal.returns
@@ -32,9 +30,9 @@ returns c =
     let k = c.args.k in
     let start = recent.pages c.args.index.now in
     let inv = c.loop-i.invariant in
-    let done = ran_all k c.args.trace.now start c.args.replies.now c.loop-i.i c.loop-i.fetches (recent.pages c.loop-i.index) c.loop-i.replies inv.1 (omega arith) in
+    let done = ran_all k c.args.trace.now start c.args.found.now c.loop-i.i c.loop-i.fetches (recent.pages c.loop-i.index) c.loop-i.found inv.1 (omega arith) in
     record {
       value = done.0;
       after = record { sound = inv.0; holds = done.1; beyond = inv.2 };
-      replied = rw (length_replies k start c.args.trace.now) at done.2;
+      told = rw (length_outcomes k start c.args.trace.now) at done.2;
     }

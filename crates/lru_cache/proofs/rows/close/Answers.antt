@@ -1,5 +1,4 @@
-use Rattle.std.proofs.Common.{ℕ, ◌+◌, List, ◌∷◌, ◌++◌, length, get_or, drop, sym, ap, ◌∙◌}
-use Rattle.recency.proofs.Pages.{length_pages}
+use Rattle.std.proofs.Common.{ℕ, ◌+◌, List, ◌∷◌, ◌++◌, length, drop, ap, ◌∙◌}
 use Rattle.recency.specs.Row as recent
 use Rattle.lru_cache.specs.Rows.{row_of}
 use Rattle.lru_cache.proofs.Written.{row_written}
@@ -10,9 +9,9 @@ unfolding row_of
 returns c =
     let k = c.args.k in
     let rest = drop (2 + k) c.args.cache.now in
-    let many = length_pages k c.args.index.now c.requires.sound in
+    let put = c.put-n in
     record {
-      after = row_written k (get_or c.args.index.now 0 0) c.args.cache.now c.put.new.places c.requires.long
-          ∙ ap (λ (n : ℕ). k ∷ n ∷ (c.put.new.places ++ rest)) (sym many)
-          ∙ ap (λ (xs : List ℕ). k ∷ length (recent.pages c.args.index.now) ∷ (xs ++ rest)) c.put.ensures.after;
+      after = row_written k put.result c.args.cache.now put.new.places c.requires.long
+          ∙ ap (λ (n : ℕ). k ∷ n ∷ (put.new.places ++ rest)) put.ensures.value
+          ∙ ap (λ (xs : List ℕ). k ∷ length (recent.pages c.args.index.now) ∷ (xs ++ rest)) put.ensures.after;
     }

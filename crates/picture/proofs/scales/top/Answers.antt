@@ -1,9 +1,6 @@
-use Rattle.std.proofs.Common.{arith}
-use Rattle.picture.proofs.Bounded.{top_is, topped}
+use Rattle.std.proofs.Common.{◌∙◌}
+use Rattle.picture.proofs.Bounded.{top_is}
 use Rattle.picture.proofs.scales.top.Goals as goal
 
-pub returns : goal.returns
-returns c =
-    let apart = c.step-apart.ensures in
-    let t = topped c.step-apart.result c.max.result (omega arith) (omega arith) apart.low apart.high in
-    record { value = top_is c.args.n _ _ apart.value (omega arith); low = t.low; high = t.high }
+pub returns-clause-value : goal.returns-clause-value
+returns-clause-value c = c.next_multiple_of.ensures.value ∙ top_is c.args.n _ _ c.step.ensures.low c.step.ensures.value c.max.ensures

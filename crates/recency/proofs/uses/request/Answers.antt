@@ -1,4 +1,4 @@
-use Rattle.std.proofs.Common.{◌≡◌, ◌≤◌, ap, ◌∙◌, arith}
+use Rattle.std.proofs.Common.{◌≡◌, ap, ◌∙◌, arith}
 use Rattle.recency.specs.Row.{count, pages}
 use Rattle.recency.specs.declared.uses.Outcome.TheVariants.{Evicted}
 use Rattle.recency.proofs.Misses.{last_high}
@@ -9,59 +9,41 @@ use Rattle.recency.proofs.uses.request.Goals as goal
 
 pub touch-requires : goal.touch-requires
 touch-requires c =
-    let s = c.probe-slot.result in
-    let low : 1 ≤ s = omega arith in
-    let t = hit_taken c.args.k c.args.row.now c.requires.sound s low (c.probe-slot.ensures.found low).0 in
+    let found = c.in-Some.ensures.cases in
+    let t = hit_taken c.args.k c.args.row.now c.requires.sound c.in-Some.slot found.0 found.1 in
     let long = c.requires.sound.sized.long in
     record { slot_within = omega arith; next_within = omega arith; prev_within = omega arith; head_within = omega arith }
 
-pub returns-then-slot-ne0 : goal.returns-then-slot-ne0
-returns-then-slot-ne0 c =
+pub returns-in-Some : goal.returns-in-Some
+returns-in-Some c =
     let k = c.args.k in
     let row = c.args.row.now in
-    let s = c.probe-slot.result in
-    let low : 1 ≤ s = omega arith in
-    let found = c.probe-slot.ensures.found low in
-    let there = page_found k row c.requires.sound c.args.page s low found.0 found.1 in
-    let served : Served k row c.args.page c.touch.new.row = rw (c.touch.ensures.after, ← found.1) (hit_served k row c.requires.sound s low found.0) in
+    let s = c.in-Some.slot in
+    let found = c.in-Some.ensures.cases in
+    let there = page_found k row c.requires.sound c.args.page s found.0 found.1 found.2 in
+    let served : Served k row c.args.page c.touch.new.row = rw (c.touch.ensures.after, ← found.2) (hit_served k row c.requires.sound s found.0 found.1) in
     record { value = outcome_hit k (pages row) c.args.page there; after = served.after; sound = served.sound; beyond = served.beyond }
 
-pub fill-requires : goal.fill-requires
-fill-requires c =
-    record {
-      sound = c.requires.sound;
-      room = omega arith;
-      absent = page_missed _ _ c.requires.sound c.args.page (c.probe-slot.ensures.missed (omega arith));
-    }
+pub fill-requires-clause-absent : goal.fill-requires-clause-absent
+fill-requires-clause-absent c = page_missed _ _ c.requires.sound c.args.page c.in_default.ensures.cases
 
-pub returns-then-row-k : goal.returns-then-row-k
-returns-then-row-k c =
-    let absent = page_missed _ _ c.requires.sound c.args.page (c.probe-slot.ensures.missed (omega arith)) in
+pub returns-then-row-k-clause-value : goal.returns-then-row-k-clause-value
+returns-then-row-k-clause-value c =
     let many = length_pages _ _ c.requires.sound in
-    let f = c.fill.ensures in
-    record { value = outcome_filled _ _ c.args.page absent (omega arith); after = f.after; sound = f.sound; beyond = f.beyond }
+    outcome_filled _ _ c.args.page (page_missed _ _ c.requires.sound c.args.page c.in_default.ensures.cases) (omega arith)
 
-pub evict-requires : goal.evict-requires
-evict-requires c =
+pub evict-requires-clause-last_within : goal.evict-requires-clause-last_within
+evict-requires-clause-last_within c =
     let few = c.requires.sound.sized.few in
     let full : count c.args.row.now ≡ c.args.k = omega arith in
     let high = last_high c.args.k c.args.row.now c.requires.sound full in
-    let long = c.requires.sound.sized.long in
-    record {
-      sound = c.requires.sound;
-      full = full;
-      last_within = omega arith;
-      absent = page_missed _ _ c.requires.sound c.args.page (c.probe-slot.ensures.missed (omega arith));
-    }
+    omega (arith, c.requires.sound.sized.long)
 
-pub returns : goal.returns
-returns c =
-    let absent = page_missed _ _ c.requires.sound c.args.page (c.probe-slot.ensures.missed (omega arith)) in
+pub evict-requires-clause-absent : goal.evict-requires-clause-absent
+evict-requires-clause-absent c = page_missed _ _ c.requires.sound c.args.page c.in_default.ensures.cases
+
+pub returns-clause-value : goal.returns-clause-value
+returns-clause-value c =
+    let absent = page_missed _ _ c.requires.sound c.args.page c.in_default.ensures.cases in
     let many = length_pages _ _ c.requires.sound in
-    let e = c.evict.ensures in
-    record {
-      value = ap Evicted e.value ∙ outcome_evicted _ _ c.args.page absent (omega arith);
-      after = e.after;
-      sound = e.sound;
-      beyond = e.beyond;
-    }
+    ap Evicted c.evict.ensures.value ∙ outcome_evicted _ _ c.args.page absent (omega arith)

@@ -6,7 +6,7 @@ use Rattle.runs.proofs.whole.ask_all.Given as goal
 -- n requests were played, and the policy was given them
 abbrev pub invariant-loop-n : goal.invariant-loop-n
 invariant-loop-n g l =
-    Against l.initial.challenge.k l.initial.challenge.h (g.P.Policy.policy l.initial.keeper) l.n l.challenge l.row
-    × Led (g.P.Policy.policy l.initial.keeper) (played l.initial.challenge.k l.initial.challenge.h (g.P.Policy.policy l.initial.keeper) l.n).history (g.P.Policy.policy l.keeper)
+    Against l.initial.challenge.k l.initial.challenge.h (g.P.Policy.policy l.initial.keeper) l.n-counter l.challenge l.row
+    × Led (g.P.Policy.policy l.initial.keeper) (played l.initial.challenge.k l.initial.challenge.h (g.P.Policy.policy l.initial.keeper) l.n-counter).history (g.P.Policy.policy l.keeper)
     × (drop (3 * l.initial.challenge.k + 1) l.row ≡ drop (3 * l.initial.challenge.k + 1) l.initial.row)
     × (length l.row ≡ length l.initial.row)

@@ -17,6 +17,6 @@ returns c =
     record {
       lines = λ ok. rw some
           (five_lines _ _ _ _ _ _ (line (Counts s)) (line (fetched_sentence s)) (line (Promised s)) (line (Tightest s)) (line (Needed s))
-          c.in_ok-writeln-2.ensures.bytes (rw c.fetched-fetched.ensures.value at c.in_ok-writeln-3.ensures.bytes) c.in_ok-writeln-4.ensures.bytes
+          c.in_ok-writeln-2.ensures.bytes (rw c.fetched.ensures.value at c.in_ok-writeln-3.ensures.bytes) c.in_ok-writeln-4.ensures.bytes
           c.in_ok-writeln-5.ensures.bytes c.in_ok-writeln-6.ensures.bytes);
     }

@@ -3,5 +3,5 @@ use Rattle.std.proofs.Common.{◌≡◌, drop}
 use Rattle.text.specs.Texts.{number_from}
 use Rattle.text.proofs.words.number.Given as goal
 
-abbrev pub invariant-loop-i : goal.invariant-loop-i
-invariant-loop-i l = number_from l.number (drop l.i l.word) ≡ number_from 0 l.word
+abbrev pub invariant-loop-byte : goal.invariant-loop-byte
+invariant-loop-byte l = number_from l.number (drop l.byte-index l.word) ≡ number_from 0 l.word

@@ -1,20 +1,17 @@
-use Rattle.std.proofs.Common.{sym, refl}
+use Rattle.std.proofs.lemmas.Result.{err_from_is_err_and}
 use Rattle.recency.specs.Row as recent
 use Rattle.adversary.specs.Places.{asked_in, shown_in, position_in}
-use Rattle.adversary.proofs.Chosen.{refusal_broken, aimed}
+use Rattle.adversary.proofs.Chosen.{refusal_fault, aimed}
 use Rattle.adversary.proofs.challenge.Challenge.aim.Goals as goal
 
-pub returns-in-Some : goal.returns-in-Some
-returns-in-Some c =
-    let self = c.args.self in
+pub returns-in_err-refuse : goal.returns-in_err-refuse
+returns-in_err-refuse c =
+    let s = c.args.self in
     let row = c.args.row.now in
-    record {
-      cases =
-          refusal_broken self.k (position_in self row) (asked_in self) (shown_in self row) c.args.shown.now c.in-Some.at
-          (sym c.in-Some.ensures.value);
-    }
+    let p = err_from_is_err_and c.from_residual.result c.from_residual.ensures.1 in
+    rw (p.1, p.2) (record { cases = refusal_fault s.k (position_in s row) (asked_in s) (shown_in s row) c.args.shown.now _ c.in_err-refuse.ensures.cases })
 
 pub returns : goal.returns
 returns c =
-    let f = c.in_default.ensures in
-    record { cases = aimed c.args.self c.args.row.now c.args.shown.now (recent.pages c.fault.new.seen) (f.seen refl).same (sym f.value) c.choose.result c.choose.ensures.cases }
+    let f = c.in_ok-refuse.ensures.cases in
+    record { cases = aimed c.args.self c.args.row.now c.args.shown.now (recent.pages c.refuse.new.seen) f.1.same f.0 c.choose.result c.choose.ensures.cases }

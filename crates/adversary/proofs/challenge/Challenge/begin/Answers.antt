@@ -3,10 +3,7 @@ use Rattle.std.proofs.lemmas.Bool.Decides.{nat_tests}
 use Rattle.paging.specs.Stepwise.{start}
 use Rattle.adversary.proofs.challenge.Challenge.begin.Goals as goal
 
-pub returns : goal.returns
+pub returns-clause-cases : goal.returns-clause-cases
 unfolding start
-returns c =
-    record {
-      cases = record { fits = grind (arith, nat_tests); long = omega arith; k_is = refl; h_is = refl; position = refl; asked = refl; shown = refl };
-      unasked = refl;
-    }
+returns-clause-cases c =
+    record { fits = grind (arith, nat_tests); long = omega arith; k_is = refl; h_is = refl; position = refl; asked = refl; shown = refl }

@@ -1,20 +1,22 @@
-use Rattle.std.proofs.Common.{◌≡◌, ◌-◌, take, ◌∙◌, arith}
-use Rattle.paging.specs.Adversary.{first_missing}
+use Rattle.std.proofs.Common.{ℕ, take, Option, ap, ◌∙◌, arith}
+use Rattle.std.specs.Option.{unwrap_or}
 use Rattle.recency.specs.Row as recent
 use Rattle.adversary.specs.Places.{position_in}
 use Rattle.adversary.proofs.Chosen.{aim_pick, aim_new, aim_out}
 use Rattle.adversary.proofs.Lengths.{length_listed}
+use Rattle.adversary.proofs.Marked.{missing_found}
 use Rattle.adversary.proofs.challenge.Challenge.choose.Goals as goal
 
-pub returns-then-listed-self : goal.returns-then-listed-self
-returns-then-listed-self c =
+pub returns-then-self : goal.returns-then-self
+returns-then-self c =
     let self = c.args.self in
     let row = c.args.row.now in
+    let cache = recent.pages c.args.seen.now in
     let l = length_listed self row c.requires.long in
-    let a = aim_pick self.k (position_in self row) (recent.pages c.args.seen.now) (omega arith) in
-    let z : self.listed - 0 ≡ self.listed = omega arith in
-    let v : c.first_unmarked.result ≡ first_missing (take (self.listed - 0) row) (recent.pages c.args.seen.now) = c.first_unmarked.ensures.value in
-    record { cases = record { none = a.0; page_is = rw z at v ∙ a.1; left = λ le. absurd (omega arith) } }
+    let a = aim_pick self.k (position_in self row) cache (omega arith) in
+    let found = missing_found (take self.listed row) cache in
+    let is = c.unwrap_or.ensures ∙ ap (λ (o : Option ℕ). unwrap_or o 0) c.first_unmarked-missing.ensures.value in
+    record { cases = record { none = a.0; page_is = is ∙ found ∙ a.1; left = λ le. absurd (omega arith) } }
 
 pub returns-then-self-eq4294967296 : goal.returns-then-self-eq4294967296
 returns-then-self-eq4294967296 c =

@@ -8,7 +8,7 @@ returns c =
     let b = c.bring.ensures in
     record {
       over = record {
-        position = begun_list c.args.next (b.after ∙ g.after);
+        position = begun_list c.args.self.next (b.after ∙ g.after);
         last_is = refl;
         shown_is = refl;
         k_is = refl;

@@ -1,16 +1,9 @@
-use Rattle.std.proofs.Common.{arith}
 use Rattle.adversary.proofs.Stepped.{aimed_new, stepped}
 use Rattle.adversary.proofs.challenge.Challenge.step_on.Goals as goal
 
-pub enter-requires : goal.enter-requires
-enter-requires c =
-    let a = c.in_ok-page.ensures.cases in
-    record {
-      long = omega arith;
-      room = omega arith;
-      new = aimed_new c.args.self c.args.row.now c.args.shown.now c.in_ok-page.page a c.requires.long;
-      shown = a.few;
-    }
+pub enter-requires-clause-new : goal.enter-requires-clause-new
+enter-requires-clause-new c =
+    aimed_new c.args.self c.args.row.now c.args.shown.now c.in_ok-page.page c.in_ok-page.ensures.cases c.requires.long
 
 pub returns : goal.returns
 returns c =

@@ -1,6 +1,7 @@
 use Rattle.std.proofs.Common.{◌≡◌, suc, ◌<◌, set, refl, ◌∙◌, arith}
 use Rattle.adversary.specs.Places.{position_in}
 use Rattle.adversary.proofs.Entered.{rest_further, new_back, entered_new, entered_new_over}
+use Rattle.adversary.proofs.challenge.Challenge.with_new.Goals.{then-self-via-then-self, then-self-via-else-self+then-self-2}
 use Rattle.adversary.proofs.challenge.Challenge.with_new.Goals as goal
 
 pub returns-then-self : goal.returns-then-self
@@ -9,7 +10,12 @@ returns-then-self c =
     let row = c.args.row.now in
     let some = c.requires.some in
     let older = s.older in
-    let on : s.listed ≡ s.k → suc s.picks < s.h = λ full. grind (arith, c.then-self.either) in
+    let on : s.listed ≡ s.k → suc s.picks < s.h = λ full.
+    elim c.then-self.branch [
+      | then-self-via-then-self w ↦ let t = w.if-self.true in absurd (omega arith)
+      | then-self-via-else-self+then-self-2 w ↦ let t = w.if-self-2.true in omega arith
+    ]
+    in
     record {
       moved = record {
         position = entered_new s.k s.h s.next s.listed s.noted s.picks row c.requires.long some on;

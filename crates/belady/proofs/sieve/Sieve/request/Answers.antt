@@ -22,7 +22,7 @@ returns-then-at-self c =
 pub overflow_add-hits : goal.overflow_add-hits
 overflow_add-hits c =
     let far = c.sift-at.ensures.after.far in
-    omega (arith, counter_fits _ _ _ _ _ _ c.requires.row c.requires.within c.sift-at.result.0 (omega arith))
+    omega (arith, counter_fits _ _ _ _ _ _ c.requires.row c.requires.within c.sift-at.result.at (omega arith))
 
 pub returns : goal.returns
 returns c =

@@ -2,11 +2,9 @@ use Rattle.std.proofs.Common.{refl, arith}
 use Rattle.lru_cache.specs.Rows.{first_wide}
 use Rattle.day.proofs.days.Day.new.Goals as goal
 
-pub returns : goal.returns
+pub invariant_of-day-clause-ready : goal.invariant_of-day-clause-ready
+invariant_of-day-clause-ready c = c.empty.ensures.ready 36869 (omega arith)
+
+pub invariant_of-day-clause-small : goal.invariant_of-day-clause-small
 unfolding first_wide
-returns c =
-    let e = c.empty.ensures in
-    record {
-      ready = record { ready = e.ready 36869 (omega arith); small = refl };
-      begun = record { capacity_is = e.capacity; empty = e.none; none = refl; total = refl; reported = refl };
-    }
+invariant_of-day-clause-small c = refl

@@ -1,14 +1,13 @@
 -- One byte more is told, up to 41 of them.
-use Rattle.std.proofs.Common.{arith}
-use Rattle.text.proofs.Told.{told_more, told_full}
+use Rattle.std.proofs.Common.{◌≡◌, rules}
+use Rattle.std.specs.Option.{option_and_then}
+use Rattle.text.specs.Texts.{with_digit}
+use Rattle.text.proofs.Told.{told_more}
 use Rattle.text.proofs.readers.Reader.put.Goals as goal
 
-pub returns-then-self-lt-KEPT : goal.returns-then-self-lt-KEPT
-returns-then-self-lt-KEPT c =
-    let told = told_more c.args.self.now.word c.args.self.now.length (omega arith) c.args.byte c.if-self-lt-KEPT.true in
-    record { after = rw (told, c.with_digit-self.ensures.value) }
-
-pub returns-else-self-lt-KEPT : goal.returns-else-self-lt-KEPT
-returns-else-self-lt-KEPT c =
-    let told = told_full c.args.self.now.word c.args.self.now.length (omega arith) c.args.byte c.if-self-lt-KEPT.false in
-    record { after = cc }
+pub returns : goal.returns
+returns c =
+    let put = c.try_push.ensures in
+    let told = told_more _ _ _ _ put.variant put.ok put.err put.full in
+    let page : c.and_then-self.result ≡ option_and_then (λ n. with_digit n c.args.byte) c.args.self.now.page = search rules in
+    record { after = rw (told, page) }

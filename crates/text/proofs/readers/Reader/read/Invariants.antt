@@ -4,10 +4,12 @@ use Rattle.text.specs.Texts.{pages_from, after}
 use Rattle.text.specs.Readers.{state_of}
 use Rattle.text.proofs.readers.Reader.read.Given as goal
 
-abbrev pub invariant-loop-i : goal.invariant-loop-i
-invariant-loop-i l =
-    (l.count ≤ l.i)
-    × (length l.pages ≡ length l.initial.pages)
-    × (take l.count l.pages ++ pages_from (state_of l.self) (drop l.i (take (length l.initial.pages) l.bytes)) ≡ pages_from (state_of l.initial.self) (take (length l.initial.pages) l.bytes))
-    × (drop l.count l.pages ≡ drop l.count l.initial.pages)
-    × (after (state_of l.self) (drop l.i (take (length l.initial.pages) l.bytes)) ≡ after (state_of l.initial.self) (take (length l.initial.pages) l.bytes))
+abbrev pub invariant-loop-byte : goal.invariant-loop-byte
+invariant-loop-byte l =
+    record {
+      few : l.count ≤ l.byte-index;
+      long : length l.pages ≡ length l.initial.pages;
+      written : take l.count l.pages ++ pages_from (state_of l.self) (drop l.byte-index l.piece) ≡ pages_from (state_of l.initial.self) l.piece;
+      kept : drop l.count l.pages ≡ drop l.count l.initial.pages;
+      known : after (state_of l.self) (drop l.byte-index l.piece) ≡ after (state_of l.initial.self) l.piece;
+    }

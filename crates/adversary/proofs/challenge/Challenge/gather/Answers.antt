@@ -1,0 +1,49 @@
+use Rattle.std.proofs.Common.{◌≡◌, ℕ, ◌+◌, ◌*◌, ◌≤◌, List, [], ◌∷◌, ◌++◌, length, take, drop, sym, ap, ◌∙◌, arith}
+use Rattle.std.proofs.lemmas.List.{length-take, drop_at, drop-drop}
+use Rattle.paging.specs.Adversary.{once_each}
+use Rattle.adversary.proofs.Gathered.{gather_step, gather_more, gather_all}
+use Rattle.adversary.proofs.challenge.Challenge.gather.Goals as goal
+
+pub loop-page-preserved : goal.loop-page-preserved
+loop-page-preserved c =
+    let h = c.args.self.h in
+    let i = c.loop-page.page-index in
+    let list = c.split_at_mut-list.result.0.now in
+    let inv = c.loop-page.invariant in
+    let r = c.add-n-in-loop-page.ensures in
+    let seen = take c.loop-page.n c.loop-page.picked in
+    let l = length-take c.loop-page.n c.loop-page.picked in
+    let few : length seen ≤ h = omega arith in
+    let more = gather_more h seen list i few (omega arith) in (
+      r.few,
+      c.add-n-in-loop-page.auto.picked ∙ inv.1,
+      c.add-n-in-loop-page.auto.seen ∙ inv.2,
+      r.marked,
+      r.rest ∙ inv.4,
+      ap (λ (xs : List ℕ). take h (once_each xs (drop (i + 1) list))) r.after ∙ more ∙ inv.5,
+    )
+
+pub returns : goal.returns
+returns c =
+    let k = c.args.self.k in
+    let h = c.args.self.h in
+    let within = c.args.self.within in
+    let row = c.args.row.now in
+    let inv = c.loop-page.invariant in
+    let split = c.split_at_mut-list.ensures in
+    let list = c.split_at_mut-list.result.0.now in
+    let picked = c.loop-page.picked in
+    let l = length-take c.loop-page.n picked in
+    let few : length (take c.loop-page.n picked) ≤ h = omega arith in
+    let back : drop (k + 1) (list ++ picked) ≡ picked = drop_at list picked (k + 1) split.front_len in
+    let noted = take c.args.noted (drop (k + 1) row) in
+    let m = length-take c.args.noted (drop (k + 1) row) in
+    let some : length noted ≤ h = omega arith in
+    let first = c.add-n.ensures in
+    let joined : take h (once_each (take c.add-n.result c.add-n.new.picked) list) ≡ take h (once_each (take h (once_each noted (c.args.last ∷ []))) (take (k + 1) row)) =
+    rw (← split.front, ← split.back) (ap (λ (xs : List ℕ). take h (once_each xs list)) first.after) in
+    let whole = sym (gather_all h (take c.loop-page.n picked) list c.loop-page.page-index few (omega arith)) ∙ inv.5 ∙ joined ∙ gather_step h noted c.args.last (take (k + 1) row) some in
+    let e : k + 1 + k ≡ 2 * k + 1 = omega arith in
+    let rest : drop (k + 1 + k) (list ++ picked) ≡ drop (k + 1 + k) row =
+    sym (drop-drop k (k + 1) (list ++ picked)) ∙ ap (drop k) back ∙ inv.4 ∙ first.rest ∙ ap (drop k) split.back ∙ drop-drop k (k + 1) row in
+    record { few = inv.0; after = rw back whole; rest = rw e at rest }

@@ -1,9 +1,0 @@
--- What is told so far, with the numbers that are left, is the whole axis.
-use Rattle.std.proofs.Common.{◌≡◌, ◌+◌, ◌-◌, ◌/◌, ◌++◌, string_bytes}
-use Rattle.picture.specs.Pictured.{told, fetches_piece}
-use Rattle.picture.proofs.axes.tell_fetches.Given as goal
-
-abbrev pub invariant-loop-i : goal.invariant-loop-i
-invariant-loop-i l =
-    string_bytes l.text ++ told (fetches_piece l.top l.apart) l.i (l.top / l.apart + 1 - l.i)
-    ≡ string_bytes l.initial.text ++ told (fetches_piece l.top l.apart) 0 (l.top / l.apart + 1)

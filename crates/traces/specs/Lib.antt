@@ -1,0 +1,4 @@
+pub mod Random
+pub mod Kind
+pub mod Day
+pub mod Cases
