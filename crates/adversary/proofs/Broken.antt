@@ -1,6 +1,6 @@
 -- Where what is shown breaks the rules first, test by test.
-use Rattle.std.proofs.Common.{◌≡◌, ℕ, ◌<◌, ◌≤◌, true, false, List, [], ◌∷◌, length, Some, None, Option, refl, ap, ◌∙◌, arith}
-use Rattle.std.proofs.lemmas.Bool.{le-leb, lt-leb, lt-ltb, le-ltb}
+use Rattle.std.proofs.Common.{◌≡◌, ℕ, ◌<◌, ◌≤◌, true, false, List, [], ◌∷◌, length, Some, None, Option, sym, refl, ap, ◌∙◌, ⊎_elim, arith}
+use Rattle.std.proofs.lemmas.Bool.{cases_lt, le-leb, lt-leb, lt-ltb, le-ltb}
 use Rattle.paging.specs.Lists.{has}
 use Rattle.lru_cache.specs.declared.refusals.Refusal.{Refusal}
 use Rattle.lru_cache.specs.declared.refusals.Refusal.TheVariants.{BrokenRule}
@@ -59,6 +59,18 @@ module _ (c : Challenge) (row shown : List ℕ) where
 
     pub fault_first : 0 < length shown → length shown ≤ c.k → fault_in c row shown ≡ Some (BrokenRule 0)
     fault_first some few = told_at _ 0 (broken_first ∙ broken_unasked c.k shown some few)
+
+    pub unasked_none : broken c.k (asked_in c) (shown_in c row) shown ≡ None → length shown ≤ c.k → length shown ≡ 0
+    unasked_none none few = ⊎_elim some nothing (cases_lt 0 (length shown))
+      where
+        some : 0 < length shown → length shown ≡ 0
+        some lt =
+            let w : Some (BrokenRule 0) ≡ None = sym (fault_first lt few) ∙ ap (λ (o : Option ℕ). told o None) none in
+            let z : ◌≡◌ {A = ℕ} 0 1 = cc in
+            absurd (omega arith)
+
+        nothing : length shown ≤ 0 → length shown ≡ 0
+        nothing le = omega arith
 
   -- and after one
   module _ (begun : 1 < c.next) (few : length shown ≤ c.k) where

@@ -1,6 +1,6 @@
 -- Pages noted each once, up to h of them, one page on.
-use Rattle.std.proofs.Common.{◌≡◌, ℕ, suc, ◌+◌, ◌<◌, ◌≤◌, Bool, true, false, cond, List, [], ◌∷◌, ◌++◌, length, get_or, take, drop, sym, refl, ap, ◌∙◌, ⊎_elim, arith}
-use Rattle.std.proofs.lemmas.List.{take_all, take-take, take_at, length_push, at_drop_more, at_drop_all}
+use Rattle.std.proofs.Common.{◌≡◌, ℕ, suc, ◌+◌, ◌<◌, ◌≤◌, Bool, true, false, cond, List, [], ◌∷◌, ◌++◌, append_assoc, length, get_or, take, drop, sym, refl, ap, ◌∙◌, ⊎_elim, arith}
+use Rattle.std.proofs.lemmas.List.{take_all, take-take, take_at, drop_at, length-take, length-drop, length-append, length_push, at_drop_more, at_drop_all}
 use Rattle.std.proofs.lemmas.Bool.{cases_lt}
 use Rattle.std.proofs.lemmas.Bool.Decides.{nat_tests}
 use Rattle.paging.specs.Adversary.{once_each}
@@ -75,3 +75,17 @@ module _ (h : ℕ) (seen list : List ℕ) (i : ℕ) (few : length seen ≤ h) wh
   pub gather_all : length list ≤ i → take h (once_each seen (drop i list)) ≡ seen
   unfolding once_each
   gather_all end = at_drop_all (λ xs. take h (once_each seen xs)) list i end ∙ take_all h seen few
+
+-- what is noted comes to the front of the list before it
+module _ (k n : ℕ) (list picked : List ℕ) (front : length list ≡ k + 1) (few : n ≤ k) (long : k ≤ length picked) where
+  pub brought : take n (take n picked ++ drop n list ++ picked) ≡ take n picked
+  brought =
+      let l = length-take n picked in
+      ap (take n) (append_assoc (take n picked) (drop n list) picked) ∙ take_at (take n picked) (drop n list ++ picked) n (omega arith)
+
+  pub brought_back : drop (k + 1) (take n picked ++ drop n list ++ picked) ≡ picked
+  brought_back =
+      let l = length-take n picked in
+      let d = length-drop n list in
+      let a = length-append (take n picked) (drop n list) in
+      drop_at (take n picked ++ drop n list) picked (k + 1) (omega arith)

@@ -1,11 +1,11 @@
 // Where the adversary stands: counts over a lent row.
 ghost use Rattle.std.specs.Prelude.{◌≡◌, ◌+◌, ◌<◌, ◌≤◌};
 
-// A policy with k places is challenged beside a schedule with h. The row holds three lists, each from its own place on: the round's pages
-// at 0, those of them that the second part picked, each once, at k + 1, and what the policy showed last at 2 * k + 1.
-// Row and indexes are lent at each call, so each asks for their lengths: of what a struct over a lent row has written, nothing is known once it is let go.
-// Nobody compares or prints a challenge.
-#[derive(Clone, Copy)]
+// A policy with k places beside a schedule with h. The row holds the round's pages from 0 on, those that the second part picked, each once,
+// from k + 1 on, and what the policy showed last from 2 * k + 1 on. What reads it is a `Reading`. What writes in it asks for its length: of
+// what a struct over `&mut` has written nothing is known once it is let go. Places in it are sums: a function for each would say its sum
+// again in its clause.
+#[derive(Clone, Copy, Debug, PartialEq, Eq)]
 pub struct Challenge {
     // How many places the policy has, and how many the schedule.
     pub k: usize,
@@ -16,7 +16,7 @@ pub struct Challenge {
     pub listed: usize,
     pub noted: usize,
     pub picks: usize,
-    // How many pages were shown last, and the page requested last, 0 before the first: a number, as C keeps a challenge in eight numbers.
+    // How many pages were shown last, and the page requested last. The field is public, and `page` promises 0 before the first request.
     pub shown: usize,
     pub last: u64,
     ghost low: { 1 ≤ h },

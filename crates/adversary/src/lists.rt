@@ -1,11 +1,14 @@
 // The lists that a challenge keeps in its row: the round's pages, the pages picked, what was shown.
 ghost use Rattle.std.specs.Prelude.{◌≡◌, ◌+◌, ◌*◌, ◌<◌, ◌≤◌, [], ◌∷◌, ◌++◌, length, take, drop};
 ghost use Rattle.paging.specs.Adversary.{once_each};
+ghost use Rattle.adversary.specs.Rules.{Marks};
 
 use crate::challenge::Challenge;
+use recency::Outcome;
 
 impl Challenge {
-    // Notes a page behind those that were picked, unless it is among them, and says how many there are then.
+    // Notes a page behind those that were picked, unless it is among them, and says how many there are then: a list is a slice and a number,
+    // since all three stand in one lent row. They are looked through, since the index has what is shown marked.
     pub(crate) fn note(self, row: &mut [u64], page: u64) -> usize
         requires long { 3 * self.k + 1 ≤ length row.old }
         ensures bound { result ≤ self.noted + 1 }
@@ -22,18 +25,25 @@ impl Challenge {
         self.noted + 1
     }
 
-    // Brings the first n noted pages to the front, as the round's list.
-    pub(crate) fn bring(self, row: &mut [u64], n: usize)
-        requires long { 3 * self.k + 1 ≤ length row.old }
-        requires few { n ≤ self.k }
-        ensures after { take n row.new ≡ take n (drop (self.k + 1) row.old) }
-        ensures rest { drop (self.k + 1) row.new ≡ drop (self.k + 1) row.old }
+    // Notes a page behind the `noted` ones for the schedule's list, which `seen` has marked, unless it is among them or there are h, and says
+    // how many there are then. `picked` is the row from the pages picked on.
+    pub(crate) fn add(self, picked: &mut [u64], noted: usize, page: u64, seen: &mut [u64]) -> usize
+        requires long { self.k ≤ length picked.old }
+        requires few { noted ≤ self.h }
+        requires marked { Marks self.k seen.old (take noted picked.old) }
+        ensures few { result ≤ self.h }
+        ensures after { take result picked.new ≡ take self.h (once_each (take noted picked.old) (page ∷ [])) }
+        ensures marked { Marks self.k seen.new (take result picked.new) }
+        ensures rest { drop self.k picked.new ≡ drop self.k picked.old }
     {
-        let from = self.k + 1;
-        row.copy_within(from..from + n, 0);
+        if noted == self.h || recency::request(seen, self.k, page) == Outcome::Hit {
+            return noted;
+        }
+        picked[noted] = page;
+        noted + 1
     }
 
-    // Stores what is shown.
+    // Stores what is shown. No type for at most k pages: `mark` and `refuse_odd` write in an index beside them, and only this would take it.
     pub(crate) fn store(self, row: &mut [u64], shown: &[u64])
         requires long { 3 * self.k + 1 ≤ length row.old }
         requires few { length shown.now ≤ self.k }

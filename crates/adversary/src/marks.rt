@@ -14,9 +14,9 @@ impl Challenge {
         requires few { length pages.now ≤ self.k }
         ensures marked { Marks self.k index.new pages.now }
     {
-        let _ = recency::clear(index, self.k);
+        recency::clear(index, self.k);
         for page in pages {
-            let _ = recency::request(index, self.k, *page);
+            recency::request(index, self.k, *page);
         }
     }
 

@@ -1,18 +1,10 @@
 // The schedule beside the policy, read at the end of a round.
-ghost use Rattle.std.specs.Prelude.{◌≡◌, ◌+◌, ◌*◌, ◌<◌, ◌≤◌, true, false, ◌++◌, length, if◌then◌else◌, MatchOption, slice_set};
+ghost use Rattle.std.specs.Prelude.{◌≡◌, ◌+◌, ◌*◌, ◌<◌, ◌≤◌, true, false, ◌++◌, length, if◌then◌else◌, MatchOption};
 ghost use Rattle.paging.specs.Adversary.{held};
 ghost use Rattle.adversary.specs.Beside.{ended, news_of, new_at, cache_in, written};
 
 use crate::challenge::Challenge;
-
-// Writes a number, where there is a place for it. By index: of what is written through `get_mut` a proof knows the length alone.
-fn put(out: &mut [u64], i: usize, x: u64)
-    ensures after { out.new ≡ slice_set out.old i x }
-{
-    if i < out.len() {
-        out[i] = x;
-    }
-}
+use rows::write_at;
 
 // Writes the schedule's cache after a new page, where this is its list at the end of the round: the page, and what stands below it in the
 // list. Says how many pages that are.
@@ -20,11 +12,12 @@ fn write_held(list: &[u64], page: u64, out: &mut [u64]) -> usize
     ensures value { result ≡ length (held list.now page) }
     ensures after { out.new ≡ written out.old (held list.now page) }
 {
-    put(out, 0, page);
+    write_at(out, 0, page);
+    // Counted by hand: `write_at` takes a place by its number, since of what is written through `get_mut` or `zip` nothing is known.
     let mut n = 1;
     for other in list {
         if *other < page {
-            put(out, n, *other);
+            write_at(out, n, *other);
             n += 1;
         }
     }
@@ -59,7 +52,7 @@ impl Challenge {
         ensures cases { MatchOption result (ended self row.now ≡ false) (λ n. (ended self row.now ≡ true) × (n ≡ length (cache_in self row.now i))) }
         ensures after { out.new ≡ (if ended self row.now then written out.old (cache_in self row.now i) else out.old) }
     {
-        if row.len() < 3 * self.k + 1 || self.listed != self.h || self.picks != 0 {
+        if row.len() < self.row_len() || self.listed != self.h || self.picks != 0 {
             return None;
         }
         Some(write_held(&row[..self.listed], self.new_at(i), out))

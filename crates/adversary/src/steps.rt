@@ -3,51 +3,32 @@ ghost use Rattle.std.specs.Prelude.{◌≡◌, ◌+◌, ◌*◌, ◌<◌, ◌≤
 ghost use Rattle.adversary.specs.Steps.{refusal_in, if_long, Stepped};
 
 use crate::challenge::Challenge;
+use crate::reading::Reading;
 use lru_cache::Refusal;
-use recency::MAX_CAPACITY;
-
-// What a small policy is tested with, and any other. The larger two cost more to clear than a small policy to test.
-// `step` and `accept` each choose: of a closure that one function would lend the indexes, a proof knows what it answers, and not what it
-// wrote in the row.
-pub(crate) const SMALL: usize = 64;
-
-pub(crate) const SMALL_INDEX: usize = 9 * SMALL + 5;
-
-pub(crate) const LARGE_INDEX: usize = 9 * MAX_CAPACITY + 5;
+use recency::{LARGEST_ROW, SMALL_CAPACITY, SMALL_ROW};
 
 impl Challenge {
-    // A step with two indexes lent.
-    fn step_on(
-        self,
-        row: &mut [u64],
-        shown: &[u64],
-        before: &mut [u64],
-        seen: &mut [u64],
-    ) -> Result<Challenge, Refusal>
-        requires long { 3 * self.k + 1 ≤ length row.old }
-        requires before_room { 9 * self.k + 5 ≤ length before.old }
-        requires seen_room { 9 * self.k + 5 ≤ length seen.old }
-        ensures cases { MatchResult result (λ c. Stepped self row.old shown.now c row.new) (λ e. (refusal_in self row.old shown.now ≡ Some e) × (row.new ≡ row.old)) }
-    {
-        let page = self.aim(row, shown, before, seen)?;
-        self.store(row, shown);
-        Ok(self.enter(row, page, shown.len(), seen))
-    }
-
-    // The same with two indexes of N numbers of its own.
+    // A step with two indexes of N numbers of its own. `accept` chooses between two sizes of them as `step` does: of a closure that one
+    // function would lend the indexes, a proof knows what it answers, and not what it wrote in the row.
+    #[tactic(auto, using(crate::proofs::Chosen::broken_few, crate::proofs::Broken::unasked_none))]
     fn step_apart<const N: usize>(
         self,
         row: &mut [u64],
         shown: &[u64],
     ) -> Result<Challenge, Refusal>
-        requires long { 3 * self.k + 1 ≤ length row.old }
         requires room { 9 * self.k + 5 ≤ N }
         requires size { N ≤ 65536 }
-        ensures cases { MatchResult result (λ c. Stepped self row.old shown.now c row.new) (λ e. (refusal_in self row.old shown.now ≡ Some e) × (row.new ≡ row.old)) }
+        ensures cases { MatchResult result (λ c. Stepped self row.old shown.now c row.new) (λ e. (if_long self row.old (refusal_in self row.old shown.now) ≡ Some e) × (row.new ≡ row.old)) }
     {
+        let reading = Reading::new(self, &*row)?;
         let mut before = [0u64; N];
         let mut seen = [0u64; N];
-        self.step_on(row, shown, &mut before, &mut seen)
+        reading.refuse(shown, &mut before, &mut seen)?;
+        let page = reading.choose(&seen)?;
+        self.store(row, shown);
+        let mut told = self;
+        told.shown = shown.len();
+        Ok(told.enter(row, page, &mut seen))
     }
 
     // The challenge with the next request entered, where the policy shows this after the one before it. That page is its `page`.
@@ -56,12 +37,9 @@ impl Challenge {
         ensures refused { IfErr result (λ e. if_long self row.old (refusal_in self row.old shown.now) ≡ Some e) }
         ensures same { OnErr result (row.new ≡ row.old) }
     {
-        if row.len() < 3 * self.k + 1 {
-            return Err(Refusal::NoCache);
+        if self.k <= SMALL_CAPACITY {
+            return self.step_apart::<SMALL_ROW>(row, shown);
         }
-        if self.k <= SMALL {
-            return self.step_apart::<SMALL_INDEX>(row, shown);
-        }
-        self.step_apart::<LARGE_INDEX>(row, shown)
+        self.step_apart::<LARGEST_ROW>(row, shown)
     }
 }

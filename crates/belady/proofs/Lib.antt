@@ -1,10 +1,12 @@
 pub mod Carried
 pub mod Comings
+pub mod Firsts
 pub mod Halves
 pub mod Keeping
 pub mod Outcomes
 pub mod Passes
 pub mod Rekeyed
+pub mod Sizes
 pub mod Standing
 pub mod Totals
 pub mod Victims

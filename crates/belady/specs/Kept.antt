@@ -22,7 +22,7 @@ pub record Kept (h : ℕ) (trace : List ℕ) (i : ℕ) (pages keys : List ℕ) (
   pub due : belady_schedule h (take n pages) (drop i trace) ≡ drop i (belady_schedule h [] trace)
 
 abbrev pub Ready : List ℕ → ℕ → Foresight → Type 0
-Ready trace i f = Kept f.places trace i f.pages f.keys f.len
+Ready trace i f = Kept f.capacity.places trace i f.pages f.keys f.len
 
 pub record Latest (keys : List ℕ) (n at : ℕ) : Type 0 where
   pub within : at < n

@@ -7,7 +7,8 @@ use crate::nexts::next_uses;
 use crate::sieve::Sieve;
 use curve::{MAX_REQUESTS, settle};
 
-// Writes what Belady's rule fetches from an empty cache with 1, 2 .. places, as many as the row has numbers.
+// Writes what Belady's rule fetches from an empty cache with 1, 2 .. places, as many as the row has numbers. The row is lent, by C too, so
+// what its length may be stands in the contracts here and in no type.
 #[tactic(auto, using(crate::proofs::Passes::tally_enough))]
 pub fn count(trace: &[u64], row: &mut [u64])
     requires short { length trace.now ≤ 4096 }

@@ -6,37 +6,35 @@ ghost use Rattle.paging.specs.Lists.{has};
 
 use crate::places::latest;
 use curve::MAX_CAPACITIES;
+use lru_cache::Capacity;
 use rows::{find, put_first};
 
-// There is no heap here, so both rows have places for as many pages as the largest capacity of a report has use for.
+// There is no heap here, so both rows have places for as many pages as the largest capacity of a report has use for. One `len` for both: as
+// two `ArrayVec`s `request` is not proved, since the lemma of the keys beside a page that comes speaks of rows that go on behind the last.
 #[derive(Drop)]
 pub struct Foresight {
-    places: usize,
+    capacity: Capacity,
     // the page that came last first: they are lent as one slice, so their keys stand beside them
     pages: [u64; MAX_CAPACITIES],
     // when the page at the same place is requested next
     keys: [u64; MAX_CAPACITIES],
     // how many there are
     len: usize,
-    ghost low: { 1 ≤ places },
-    ghost high: { places ≤ 4096 },
-    ghost few: { len ≤ places },
+    ghost few: { len ≤ capacity.places },
 }
 
 impl Foresight {
     ghost use Rattle.belady.specs.Ahead.{Nexts};
     ghost use Rattle.belady.specs.Kept.{held, Ready, Place};
 
-    // An empty cache of h places.
-    pub fn new(h: usize) -> Foresight
-        requires low { 1 ≤ h }
-        requires high { h ≤ 4096 }
-        ensures places { result.places ≡ h }
+    // An empty cache of so many places.
+    pub fn new(capacity: Capacity) -> Foresight
+        ensures places { result.capacity.places ≡ capacity.places }
         ensures none { held result ≡ [] }
         ensures ready { (trace : List ℕ) → Ready trace 0 result }
     {
         Foresight {
-            places: h,
+            capacity,
             pages: [0; MAX_CAPACITIES],
             keys: [0; MAX_CAPACITIES],
             len: 0,
@@ -52,9 +50,9 @@ impl Foresight {
 
     // The place that a page takes which comes into the cache.
     fn place_for(&self) -> usize
-        ensures value { Place self.now.places self.now.keys self.now.len result }
+        ensures value { Place self.now.capacity.places self.now.keys self.now.len result }
     {
-        if self.len < self.places {
+        if self.len < self.capacity.places {
             return self.len;
         }
         latest(&self.keys[..self.len])
@@ -67,9 +65,9 @@ impl Foresight {
         requires next { Nexts trace.now next.now }
         requires ready { Ready trace.now i self.old }
         ensures value { result ≡ not (has (held self.old) (slice_index trace.now i)) }
-        ensures after { held self.new ≡ belady self.old.places (held self.old) (slice_index trace.now i) (drop (i + 1) trace.now) }
-        ensures shows { held self.new ≡ slice_index_or (belady_schedule self.old.places [] trace.now) i [] }
-        ensures places { self.new.places ≡ self.old.places }
+        ensures after { held self.new ≡ belady self.old.capacity.places (held self.old) (slice_index trace.now i) (drop (i + 1) trace.now) }
+        ensures shows { held self.new ≡ slice_index_or (belady_schedule self.old.capacity.places [] trace.now) i [] }
+        ensures places { self.new.capacity.places ≡ self.old.capacity.places }
         ensures ready { Ready trace.now (i + 1) self.new }
     {
         let page = trace[i];
@@ -80,7 +78,7 @@ impl Foresight {
         let end = self.place_for();
         put_first(&mut self.pages, end, page);
         put_first(&mut self.keys, end, next[i]);
-        self.len = self.places.min(self.len + 1);
+        self.len = self.capacity.places.min(self.len + 1);
         true
     }
 }

@@ -4,19 +4,17 @@ ghost use Rattle.belady.specs.Ahead.{next_at, Nexts};
 
 use rows::find;
 
-// Where the next request for the page of the i-th stands in a trace, or the trace's length where there is none.
+// Where the next request for the page of the i-th stands in a trace. Where there is none it is the trace's length, no Option: keys are made
+// of it and compared as numbers, and never is later than any request.
 fn next_at(trace: &[u64], i: usize) -> usize
     requires within { i < length trace.now }
     ensures value { result ≡ next_at trace.now i }
     ensures bound { result ≤ length trace.now }
 {
-    match find(&trace[i + 1..], trace[i]) {
-        Some(after) => i + 1 + after,
-        None => trace.len(),
-    }
+    find(&trace[i + 1..], trace[i]).map_or(trace.len(), |after| i + 1 + after)
 }
 
-// Writes for each request where the next one for its page stands in the trace, or the trace's length where there is none.
+// Writes for each request of a trace where the next one for its page stands.
 pub fn next_uses(trace: &[u64], next: &mut [u64])
     requires room { length trace.now ≤ length next.old }
     ensures value { Nexts trace.now next.new }

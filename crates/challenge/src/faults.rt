@@ -16,7 +16,8 @@ pub(crate) enum Fault {
     Output(io::Error),
 }
 
-// A fault, in the input of that name.
+// A fault, in the input of that name: in words of this program, as `play` has its own. What both share is `console::status`, which
+// prints it.
 #[derive(Clone, Copy)]
 pub(crate) struct Told<'a> {
     pub(crate) name: &'a str,
@@ -37,7 +38,7 @@ impl fmt::Display for Told<'_> {
             Fault::Contest(Cause::Output(e)) | Fault::Output(e) => {
                 write!(f, "challenge: cannot write to standard output: {e}")
             }
-            Fault::Contest(Cause::Memory) => write!(f, "challenge: out of memory"),
+            Fault::Contest(memory @ Cause::Memory) => write!(f, "challenge: {memory}"),
             Fault::Contest(Cause::Refused(_)) => write!(f, "challenge: {name} is refused"),
         }
     }

@@ -6,7 +6,7 @@ mod help;
 mod input;
 
 use console::Asked;
-use contest::{Detail, settings_with};
+use contest::{contest_told, settings_with};
 use faults::{Fault, Told};
 use help::HELP;
 use input::read_all;
@@ -16,8 +16,9 @@ use std::process::ExitCode;
 use trace::Settings;
 
 fn main(rt: HostRuntime) -> ExitCode {
-    let Some(asked) = console::ask(&rt, Program::Challenge) else {
-        return ExitCode::FAILURE;
+    let asked = match console::ask(&rt, Program::Challenge) {
+        Ok(asked) => asked,
+        Err(status) => return status,
     };
     let name = asked.file().unwrap_or("standard input");
     let ended = challenge(&rt, &asked).map_err(|fault| Told { name, fault });
@@ -33,12 +34,7 @@ fn challenge(rt: &HostRuntime, asked: &Asked) -> Result<(), Fault> {
     let own = own_settings(rt, asked)?;
     let policy = given.policy.map(|kind| usize::from(u8::from(kind)));
     let settings = settings_with(given.places, given.rival, given.rounds, policy, own);
-    let detail = if given.summary {
-        Detail::Counts
-    } else {
-        Detail::Requests
-    };
-    contest::contest_told(rt.alloc(), settings, detail, &mut rt.stdout()).map_err(Fault::Contest)
+    contest_told(rt.alloc(), settings, given.detail(), &mut rt.stdout()).map_err(Fault::Contest)
 }
 
 // The settings of the file that is named, or of standard input where no options say what to do.

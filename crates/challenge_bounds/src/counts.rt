@@ -9,8 +9,10 @@ use belady::report;
 use lru_cache::Refusal;
 use std::alloc::{AllocError, Global};
 use std::fmt;
+use trace::Totals;
 
-// The requests so far, and what the policy and the schedule did.
+// The requests so far, and what the policy and the schedule did. The counts saturate: no bound of them stands in the type, and at most 42 are
+// counted.
 #[derive(Drop)]
 pub struct Seen {
     trace: Vec<u64>,
@@ -66,37 +68,41 @@ impl Seen {
     pub fn count(&self, setting: Setting) -> Result<Counts, Refusal> {
         let mut row = [0; 2 * PLACES];
         report(&self.trace, PLACES, &mut row)?;
-        Ok(Counts {
+        let totals = Totals {
             asked: self.trace.len() as u64,
             keeper: self.keeper,
             rival: self.rival,
+        };
+        Ok(Counts {
+            totals,
             known: row[PLACES + setting.h - 1],
         })
     }
 }
 
-// How many requests there were, how many of them the policy fetched, how many the schedule, and the fewest that anybody could.
+// What a challenge came to, and the fewest fetches that anybody could make on its requests.
 #[derive(Clone, Copy, PartialEq, Eq)]
 pub struct Counts {
-    asked: u64,
-    keeper: u64,
-    rival: u64,
+    totals: Totals,
     known: u64,
 }
 
 impl Counts {
-    // What so many rounds should come to. The schedule fetches each page once, so that nobody could fetch fewer.
-    pub fn of(setting: Setting, rounds: u64) -> Counts
+    // What so many rounds should come to. The sums of `telling::count` are written out again, since the library is not held to itself here. The
+    // schedule fetches each page once, so that nobody could fetch fewer.
+    pub fn of(setting: Setting, rounds: usize) -> Counts
         requires few { rounds ≤ 6 }
     {
-        let k = setting.k as u64;
-        let h = setting.h as u64;
-        let asked = h + rounds * k;
-        let rival = h + rounds * (k + 1 - h);
-        Counts {
+        let Setting { k, h, .. } = setting;
+        let asked = (h + rounds * k) as u64;
+        let rival = (h + rounds * (k + 1 - h)) as u64;
+        let totals = Totals {
             asked,
             keeper: asked,
             rival,
+        };
+        Counts {
+            totals,
             known: rival,
         }
     }
@@ -104,15 +110,7 @@ impl Counts {
 
 impl fmt::Display for Counts {
     fn fmt<W: fmt::Write>(&self, f: &mut fmt::Formatter<W>) -> fmt::Result {
-        let Counts {
-            asked,
-            keeper,
-            rival,
-            known,
-        } = *self;
-        write!(
-            f,
-            "asked {asked} keeper {keeper} rival {rival} known {known}"
-        )
+        let Counts { totals, known } = *self;
+        write!(f, "{totals} known {known}")
     }
 }

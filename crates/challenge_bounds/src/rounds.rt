@@ -2,11 +2,11 @@
 use crate::counts::{Counts, Seen};
 use crate::setting::{PLACES, Setting};
 use adversary::Challenge;
-use anyhow::{Context, ensure};
+use anyhow::ensure;
 use policies::{Policy, WithCapacity};
 
 // How many rounds there are after the opening.
-const ROUNDS: u64 = 6;
+const ROUNDS: usize = 6;
 
 // A policy that is challenged, and what was seen of it.
 #[derive(Drop)]
@@ -20,7 +20,7 @@ struct Run<P> {
 impl<P: Policy> Run<P> {
     // Asks the policy for n pages.
     fn ask(&mut self, n: usize) -> anyhow::Result<()> {
-        for _request in 0..n {
+        for _ in 0..n {
             self.challenge = self.challenge.step(&mut self.row, self.keeper.shown())?;
             let page = self.challenge.page();
             self.seen.add(page, self.keeper.shown())?;
@@ -53,9 +53,8 @@ pub fn challenge<P: WithCapacity + Drop>(
     let Setting { k, h, .. } = setting;
     let heap = rt.alloc();
     let row = [0; 3 * PLACES + 1];
-    let keeper = P::with_capacity(heap, k)?;
     let mut run = Run {
-        keeper: keeper.context("there is no policy with so many places")?,
+        keeper: P::with_capacity(heap, k)?,
         challenge: Challenge::begin(k, h, &row)?,
         row,
         seen: Seen::new(heap),

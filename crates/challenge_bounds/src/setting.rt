@@ -6,7 +6,7 @@ use std::fmt;
 // The most places there are.
 pub const PLACES: usize = 6;
 
-// A policy with k places, beside a schedule with h.
+// A policy with k places, beside a schedule with h. A type of its own, since k is at most PLACES here, which the arrays are for.
 #[derive(Clone, Copy)]
 pub struct Setting {
     pub k: usize,

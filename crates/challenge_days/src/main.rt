@@ -1,11 +1,11 @@
 // Challenges of many settings, each against the three policies: what is written is held to the file stdout.
 #![tactic(auto)]
 
-use contest::{Fault, contest};
-use std::process::ExitCode;
+use contest::contest;
+use std::io;
 use trace::{PolicyKind, Settings};
 
-// k, h and how many rounds.
+// k, h and how many rounds: a row of three numbers for each day, which one loop takes apart, since names in each row would only repeat these.
 const DAYS: [(u16, u16, u16); 8] = [
     (3, 3, 9),
     (1, 1, 4),
@@ -17,43 +17,30 @@ const DAYS: [(u16, u16, u16); 8] = [
     (4097, 1, 1),
 ];
 
-fn main(rt: HostRuntime) -> ExitCode {
-    match challenge_all(&rt) {
-        Ok(()) => ExitCode::SUCCESS,
-        Err(_) => ExitCode::FAILURE,
-    }
-}
-
-const KINDS: [PolicyKind; 3] = [
-    PolicyKind::Lru,
-    PolicyKind::Fifo,
-    PolicyKind::LeastRequested,
-];
-
 // Every setting, against each policy.
-fn challenge_all(rt: &HostRuntime) -> Result<(), Fault> {
+fn main(rt: HostRuntime) -> anyhow::Result<()> {
     for (capacity, places, rounds) in DAYS {
-        for kind in KINDS {
+        for kind in PolicyKind::ALL {
             let settings = Settings {
                 capacity,
                 places,
                 rounds,
                 policy: u8::from(kind),
             };
-            head(rt, settings)?;
+            head(&rt, settings)?;
             contest(rt.alloc(), settings, &mut rt.stdout())?;
         }
     }
     Ok(())
 }
 
-fn head(rt: &HostRuntime, settings: Settings) -> Result<(), Fault> {
+// What is challenged.
+fn head(rt: &HostRuntime, settings: Settings) -> io::Result<()> {
     let Settings {
         capacity: k,
         places: h,
         rounds,
         policy,
     } = settings;
-    println!(rt; "{k} places, {h} beside it, {rounds} rounds, policy {policy}:")?;
-    Ok(())
+    println!(rt; "{k} places, {h} beside it, {rounds} rounds, policy {policy}:")
 }

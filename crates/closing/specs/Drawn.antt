@@ -9,8 +9,8 @@ use Rattle.curve.specs.Refused.{refusal}
 use Rattle.lru_cache.specs.declared.refusals.Refusal.{Refusal}
 use Rattle.picture.specs.Pictured.{picture}
 use Rattle.closing.specs.Summed.{cut_off}
-use Rattle.closing.specs.declared.undrawn.Undrawn.{Undrawn}
-use Rattle.closing.specs.declared.undrawn.Undrawn.TheVariants.{Refused, Memory}
+use Rattle.lru_cache.specs.declared.stops.Stop.{Stop}
+use Rattle.lru_cache.specs.declared.stops.Stop.TheVariants.{Refused, Memory}
 
 abbrev pub no_picture : List ℕ → ℕ → ℕ → Option Refusal
 no_picture requests total m = option_or (refusal requests m 8192) (cut_off requests total)
@@ -20,7 +20,7 @@ pub record Pictured (requests : List ℕ) (m k : ℕ) (before after : List ℕ) 
   pub reported : Reported requests m row row
   pub added : after ≡ before ++ picture row m k
 
-abbrev pub Drawn : {T : Type 0} → List ℕ → ℕ → ℕ → ℕ → Result T Undrawn → List ℕ → List ℕ → Type 0
+abbrev pub Drawn : {T : Type 0} → List ℕ → ℕ → ℕ → ℕ → Result T Stop → List ℕ → List ℕ → Type 0
 Drawn requests total m k (Ok done) before after = (no_picture requests total m ≡ None) × Pictured requests m k before after
 Drawn requests total m k (Err (Refused e)) before after = (no_picture requests total m ≡ Some e) × (after ≡ before)
 Drawn requests total m k (Err Memory) before after = Unit {0}

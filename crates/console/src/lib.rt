@@ -10,4 +10,4 @@ mod words;
 pub use ends::status;
 pub use files::write_whole;
 pub use inputs::{fill, read_some};
-pub use words::{Asked, arguments, ask, file_named, tell_wrong, word_at};
+pub use words::{Asked, ask};

@@ -18,8 +18,8 @@ use Rattle.telling.specs.Told.{said}
 use Rattle.trace.specs.Lines.{line_bytes}
 use Rattle.contest.specs.declared.faults.Fault.{Fault}
 use Rattle.contest.specs.declared.faults.Fault.TheVariants as fault
-use Rattle.contest.specs.declared.turns.Stop.{Stop}
-use Rattle.contest.specs.declared.turns.Stop.TheVariants as stop
+use Rattle.lru_cache.specs.declared.stops.Stop.{Stop}
+use Rattle.lru_cache.specs.declared.stops.Stop.TheVariants as stop
 
 abbrev pub position_at : Challenge → List ℕ → Play
 position_at c row = record { position = position_in c row; history = [] }

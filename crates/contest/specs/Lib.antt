@@ -1,2 +1,3 @@
 pub mod Contest
 pub mod Asked
+pub mod Faults

@@ -3,10 +3,7 @@ ghost use Rattle.std.specs.Prelude.{◌≡◌, min};
 ghost use Rattle.std.specs.Option.{unwrap_or};
 ghost use Rattle.contest.specs.Asked.{settings_with};
 
-use trace::{PolicyKind, Settings};
-
-// The places of a policy where nobody says how many.
-const PLACES: u16 = 40;
+use trace::{PLACES, PolicyKind, Settings};
 
 // A number that is given, as large as it can be where it has no room in two bytes, and else the one that stands there.
 fn given_over(given: Option<usize>, own: u16) -> u16
@@ -16,7 +13,7 @@ fn given_over(given: Option<usize>, own: u16) -> u16
 }
 
 // The settings of a challenge where its numbers are given or not: what is not given is as in the settings of a file, or, where there is none,
-// 40 places, as many for the schedule, ten rounds and LRU. The policy is a number here, since one that no policy has may be asked for.
+// 40 places, as many for the schedule, ten rounds and LRU. The policy is a number, as this public parameter has been: it takes any number still.
 pub fn settings_with(
     places: Option<usize>,
     rival: Option<usize>,

@@ -7,27 +7,19 @@ ghost use Rattle.contest.specs.Contest.{Turned};
 
 use crate::faults::Fault;
 use crate::turns::play;
-use adversary::Challenge;
+use adversary::{Challenge, row_len};
 use fifo::Fifo;
 use least_requested::LeastRequested;
 use lru_cache::Refusal;
 use policies::{Lru, Policy, WithCapacity};
+use runs::run;
 use std::alloc::Global;
 use std::io::Write;
 use telling::count;
-use trace::{PolicyKind, Settings};
+use trace::{Detail, PolicyKind, Settings, Totals};
 
 // How many requests are told before their lines are written.
 const PIECE: usize = 4096;
-
-// What is told of a challenge.
-#[derive(Clone, Copy, Debug, PartialEq, Eq)]
-pub enum Detail {
-    // a line for each request, and one for the counts at the end
-    Requests,
-    // the counts alone
-    Counts,
-}
 
 // A challenge that is told, and where to.
 #[derive(Drop)]
@@ -49,8 +41,7 @@ impl<W: Write + Drop> Teller<W> {
         Ok(())
     }
 
-    // Makes n requests, and writes their lines piece by piece where they are wanted. What was told is written also where the challenge is
-    // refused then.
+    // Makes n requests, and writes their lines piece by piece. What was told is written also where the challenge is refused then.
     fn play_out<P: Policy>(
         &mut self,
         keeper: &mut P,
@@ -61,45 +52,59 @@ impl<W: Write + Drop> Teller<W> {
         ensures turned { IfOk result (λ c. Turned (P.policy keeper.old) n challenge row.old (P.policy keeper.new) c row.new) }
     {
         let mut current = challenge;
-        // what is left is counted down, since the last piece is a shorter one
-        let mut left = n;
-        while left > 0 {
-            let some = left.min(PIECE);
+        for from in (0..n).step_by(PIECE) {
+            let some = PIECE.min(n - from);
             let played = play(keeper, current, row, some, &mut self.text);
-            if self.detail == Detail::Requests {
-                self.write_out()?;
-            }
-            self.text.clear();
+            self.write_out()?;
             current = played?;
-            left -= some;
         }
         Ok(current)
+    }
+
+    // Challenges a policy as `run` does, with a line for each request.
+    fn run_told<P: Policy>(
+        &mut self,
+        keeper: &mut P,
+        settings: Settings,
+        row: &mut [u64],
+    ) -> Result<Totals, Fault>
+        ensures led { IfOk result (λ _. Led (P.policy keeper.old) (history_after [] (adversary settings.capacity settings.places (P.policy keeper.old) settings.rounds)) (P.policy keeper.new)) }
+    {
+        let k = usize::from(settings.capacity);
+        let h = usize::from(settings.places);
+        let rounds = usize::from(settings.rounds);
+        let begun = Challenge::begin(k, h, row)?;
+        let ended = self.play_out(keeper, begun, row, h + rounds * k)?;
+        ended.accept(row, keeper.shown())?;
+        Ok(count(k, h, rounds))
     }
 
     // Challenges a policy with as many places as the settings say.
     fn challenge<P: Policy>(&mut self, keeper: &mut P, settings: Settings) -> Result<(), Fault>
         ensures led { OnOk result (Led (P.policy keeper.old) (history_after [] (adversary settings.capacity settings.places (P.policy keeper.old) settings.rounds)) (P.policy keeper.new)) }
     {
-        let k = settings.capacity as usize;
-        let h = settings.places as usize;
-        let rounds = settings.rounds as usize;
-        let mut row = vec![in self.heap; 0u64; 3 * k + 1]?;
-        let begun = Challenge::begin(k, h, row.as_slice())?;
-        let ended = self.play_out(keeper, begun, row.as_mut_slice(), h + rounds * k)?;
-        ended.accept(row.as_slice(), keeper.shown())?;
-        writeln!(self.text, "{}", count(k, h, rounds))?;
+        let k = usize::from(settings.capacity);
+        let h = usize::from(settings.places);
+        let mut row = vec![in self.heap; 0u64; row_len(k).ok_or(Refusal::NoCache)?]?;
+        let totals = match self.detail {
+            Detail::Requests => self.run_told(keeper, settings, &mut row)?,
+            Detail::Summary => {
+                let ran = run(keeper, k, h, u32::from(settings.rounds), &mut row);
+                ran.map_err(|stopped| stopped.refusal)?
+            }
+        };
+        writeln!(self.text, "{totals}")?;
         self.write_out()
     }
 
     // A policy of that kind, challenged.
     fn challenge_new<P: WithCapacity + Drop>(&mut self, settings: Settings) -> Result<(), Fault> {
-        let Some(mut keeper) = P::with_capacity(self.heap, settings.capacity as usize)? else {
-            return Err(Fault::Refused(Refusal::NoCache));
-        };
+        let mut keeper = P::with_capacity(self.heap, usize::from(settings.capacity))?;
         self.challenge(&mut keeper, settings)
     }
 
-    // The policy that the settings name, challenged.
+    // The policy that the settings name, challenged. The match stands here and in `ffi`: a policy is a type parameter, and no function hands a
+    // type out.
     fn challenge_named(&mut self, settings: Settings) -> Result<(), Fault> {
         match PolicyKind::try_from(settings.policy)? {
             PolicyKind::Lru => self.challenge_new::<Lru>(settings),
@@ -131,14 +136,14 @@ pub fn contest_told<W: Write>(
     let teller = Teller {
         heap,
         detail,
-        out: &mut *out,
+        out,
         text: String::new(heap),
     };
     teller.contest(settings)
 }
 
 // Challenges the policy that the settings name, and writes a line for each request and one for the counts at the end, or one that says why
-// it is refused.
+// it is refused. It is public, so it stays beside `contest_told`.
 pub fn contest<W: Write>(heap: Global, settings: Settings, out: &mut W) -> Result<(), Fault> {
     contest_told(heap, settings, Detail::Requests, out)
 }

@@ -1,11 +1,13 @@
-// Why a challenge is not told to its end. The conversions are written out, since what each makes is promised.
+// Why a challenge is not told to its end. The conversions are written out, since what each makes is promised. There is a variant for each error,
+// and no `Stop` or `UnknownPolicy` in one, since the variants are public.
 ghost use Rattle.std.specs.Prelude.{◌≡◌};
 ghost use Rattle.contest.specs.Contest.{fault_of};
+ghost use Rattle.contest.specs.Faults.{fault_bytes};
 ghost use Rattle.contest.specs.declared.faults.Fault.TheVariants as fault;
 
-use crate::turns::Stop;
-use lru_cache::Refusal;
+use lru_cache::{Refusal, Stop};
 use std::alloc::AllocError;
+use std::error::Error;
 use std::{fmt, io};
 use trace::UnknownPolicy;
 
@@ -71,3 +73,18 @@ impl From<io::Error> for Fault {
         Fault::Output(error)
     }
 }
+
+impl fmt::Display for Fault {
+    ghost output = { fault_bytes };
+
+    fn fmt<W: fmt::Write>(&self, f: &mut fmt::Formatter<W>) -> fmt::Result {
+        match self {
+            Fault::NoPolicy(number) => UnknownPolicy(*number).fmt(f),
+            Fault::Refused(refusal) => refusal.fmt(f),
+            Fault::Output(error) => write!(f, "cannot write the lines: {error}"),
+            Fault::Memory => f.write_str("out of memory"),
+        }
+    }
+}
+
+impl Error for Fault {}

@@ -7,6 +7,7 @@ mod faults;
 mod turns;
 
 pub use asked::settings_with;
-pub use contests::{Detail, contest, contest_told};
+pub use contests::{contest, contest_told};
 pub use faults::Fault;
-pub use turns::{Stop, play};
+pub use lru_cache::Stop;
+pub use turns::play;

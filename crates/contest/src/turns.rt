@@ -5,49 +5,14 @@ ghost use Rattle.adversary.specs.Steps.{refusal_in, if_long, Stepped};
 ghost use Rattle.trace.specs.Lines.{line_bytes};
 ghost use Rattle.telling.specs.Told.{said};
 ghost use Rattle.contest.specs.Contest.{Told, Refused, Halted};
-ghost use Rattle.contest.specs.declared.turns.Stop.TheVariants as stop;
 
 use adversary::{Challenge, ask};
-use lru_cache::Refusal;
+use lru_cache::Stop;
 use policies::Policy;
-use std::alloc::AllocError;
-use std::fmt;
 use telling::tell;
 
-// Why there are no further requests. The conversions are written out, since what each makes is promised.
-#[derive(Clone, Copy, Debug, PartialEq, Eq)]
-pub enum Stop {
-    // the adversary refused
-    Refused(Refusal),
-    // there is no memory for the lines
-    Memory,
-}
-
-impl From<Refusal> for Stop {
-    ghost from_gives = { λ refusal r. r ≡ stop.Refused refusal };
-
-    fn from(refusal: Refusal) -> Stop {
-        Stop::Refused(refusal)
-    }
-}
-
-impl From<AllocError> for Stop {
-    ghost from_gives = { λ _ r. r ≡ stop.Memory };
-
-    fn from(_error: AllocError) -> Stop {
-        Stop::Memory
-    }
-}
-
-impl From<fmt::Error> for Stop {
-    ghost from_gives = { λ _ r. r ≡ stop.Memory };
-
-    fn from(_error: fmt::Error) -> Stop {
-        Stop::Memory
-    }
-}
-
-// One request, whose line is added to the text.
+// One request, whose line is added to the text. Policy, challenge and row are lent beside each other, here and in what follows, for the reason
+// in runs/src/whole.rt.
 fn turn<P: Policy>(
     keeper: &mut P,
     challenge: Challenge,
@@ -69,7 +34,7 @@ fn turn<P: Policy>(
     Ok(next)
 }
 
-// Makes n requests, and adds their lines to the text.
+// Makes n requests, and adds their lines to the text. The turn has a name for the invariant, which counts by it.
 pub fn play<P: Policy>(
     keeper: &mut P,
     challenge: Challenge,

@@ -1,4 +1,3 @@
-pub mod Printed
 pub mod Packed
 pub mod Bytes
 pub mod Lines

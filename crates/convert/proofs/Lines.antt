@@ -2,13 +2,13 @@
 --     small_pages     what a text names are pages
 --     lines_back      the lines of pages name them
 --     noted_back      also behind a header's line
-use Rattle.std.proofs.Common.{◌≡◌, ℕ, ◌+◌, ◌-◌, ◌*◌, ◌/◌, ◌%◌, ◌^◌, ◌<◌, ◌≤◌, min, Bool, true, false, ◌&&◌, ◌||◌, eqb, ltb, leb, List, [], ◌∷◌, ◌++◌, length, take, Some, None, codes, decimal, Option, refl, ap, ◌∙◌, subst, append_assoc, arith}
+use Rattle.std.proofs.Common.{◌≡◌, ℕ, ◌+◌, ◌-◌, ◌*◌, ◌/◌, ◌%◌, ◌^◌, ◌<◌, ◌≤◌, min, false, eqb, List, [], ◌∷◌, ◌++◌, length, Some, None, codes, decimal, Option, refl, ap, ◌∙◌, subst, append_assoc, arith}
 use Rattle.std.proofs.lemmas.Fmt.{decimal_by_steps}
 use Rattle.std.proofs.lemmas.List.{length-take, length_push}
-use Rattle.std.proofs.lemmas.Bool.{cond_both, ltb-true, ne_eqb, lt-ltb, le-leb}
-use Rattle.std.specs.Option.{is_none, option_and_then, option_to_list}
+use Rattle.std.proofs.lemmas.Bool.{ne_eqb}
+use Rattle.std.specs.Option.{option_and_then, option_to_list}
 use Rattle.trace.specs.declared.headers.Header.{Header}
-use Rattle.text.specs.Texts.{State, with_digit, with_byte, page_of, end_word, blank, next_line, page_in, page_at, step_in, step, pages_from, after, pages_in}
+use Rattle.text.specs.Texts.{State, with_digit, with_byte, page_of, end_word, page_in, page_at, step_in, step, pages_from, after, pages_in}
 use Rattle.text.specs.declared.readers.Mode.{Mode}
 use Rattle.text.specs.declared.readers.Mode.TheVariants.{Words, Comment, Bad}
 use Rattle.text.proofs.Pieces.{pages_append, after_append}
@@ -19,41 +19,28 @@ use Rattle.convert.specs.Claims.{Below}
 abbrev Small : Option ℕ → Type 0
 Small o = Below 4294967296 (option_to_list o)
 
-last_holds : (a b c : Bool) → (a && (b && c)) ≡ true → c ≡ true
-last_holds true true c e = e
-last_holds true false c e = cc
-last_holds false b c e = cc
-
-small_digit : (n b : ℕ) → Small (with_digit n b)
-small_digit n b =
-    cond_both (leb 48 b && (leb b 57 && ltb (10 * n + (b - 48)) 4294967296)) (Some (10 * n + (b - 48))) None Small
-    (λ e. (ltb-true _ _ (last_holds (leb 48 b) (leb b 57) _ e), tt)) (λ e. tt)
-
 small_then : (o : Option ℕ) (b : ℕ) → Small (option_and_then (λ n. with_digit n b) o)
 small_then None b = tt
-small_then (Some n) b = small_digit n b
+small_then (Some n) b = grind arith
 
 abbrev SmallIn : State → Type 0
 SmallIn s = Small s.value
 
 module _ (s : State) (small : SmallIn s) where
   small_of : Small (page_of s)
-  small_of = cond_both (eqb (length s.told) 0) None s.value Small (λ e. tt) (λ e. small)
+  small_of = grind arith
 
   small_end : (l : ℕ) (m : Mode) → SmallIn (end_word s l m)
-  small_end l m = cond_both (ltb 0 (length s.told) && is_none s.value) _ _ SmallIn (λ e. small) (λ e. (omega arith, tt))
+  small_end l m = grind arith
 
   small_in : (m : Mode) (b : ℕ) → Small (page_in m s b)
-  small_in Words b = cond_both (eqb b 10 || (eqb b 35 || blank b)) (page_of s) None Small (λ e. small_of) (λ e. tt)
-  small_in Comment b = cond_both (eqb b 10) (page_of s) None Small (λ e. small_of) (λ e. tt)
+  small_in Words b = grind (arith, small_of)
+  small_in Comment b = grind (arith, small_of)
   small_in Bad b = tt
 
   small_step : (m : Mode) (b : ℕ) → SmallIn (step_in m s b)
-  small_step Words b =
-      cond_both (eqb b 10) (end_word s (next_line s) Words) _ SmallIn (λ e. small_end _ _)
-      (λ e. cond_both (eqb b 35) (end_word s s.line Comment) _ SmallIn (λ f. small_end _ _)
-      (λ f. cond_both (blank b) (end_word s s.line Words) (with_byte s b) SmallIn (λ g. small_end _ _) (λ g. small_then s.value b)))
-  small_step Comment b = cond_both (eqb b 10) (end_word s (next_line s) Words) s SmallIn (λ e. small_end _ _) (λ e. small)
+  small_step Words b = grind (arith, small_end, small_then)
+  small_step Comment b = grind (arith, small_end)
   small_step Bad b = small
 
 below_append : (n : ℕ) (xs ys : List ℕ) → Below n xs → Below n ys → Below n (xs ++ ys)
@@ -79,29 +66,17 @@ record Word (l v : ℕ) (s : State) : Type 0 where
 
 module _ (l v : ℕ) (s : State) (word : Word l v s) where
   digit_step : (b : ℕ) → 48 ≤ b → b ≤ 57 → (step s b ≡ with_byte s b) × (page_at s b ≡ None)
-  digit_step b low high =
-      let mode = word.mode_is in
-      let e10 : eqb b 10 ≡ false = ne_eqb b 10 (λ (e : b ≡ 10). omega arith) in
-      let e35 : eqb b 35 ≡ false = ne_eqb b 35 (λ (e : b ≡ 35). omega arith) in
-      let e32 : eqb b 32 ≡ false = ne_eqb b 32 (λ (e : b ≡ 32). omega arith) in
-      let e9 : eqb b 9 ≡ false = ne_eqb b 9 (λ (e : b ≡ 9). omega arith) in
-      let e13 : eqb b 13 ≡ false = ne_eqb b 13 (λ (e : b ≡ 13). omega arith) in
-      (simp (mode, e10, e35, e32, e9, e13), simp (mode, e10, e35, e32, e9, e13))
+  digit_step b low high = let mode = word.mode_is in rw mode (grind arith, grind arith)
 
   digit_value : (b : ℕ) → 48 ≤ b → b ≤ 57 → 10 * v + (b - 48) < 4294967296 → with_digit v b ≡ Some (10 * v + (b - 48))
-  digit_value b low high small =
-      let above : leb 48 b ≡ true = le-leb 48 b low in
-      let below : leb b 57 ≡ true = le-leb b 57 high in
-      let fits : ltb (10 * v + (b - 48)) 4294967296 ≡ true = lt-ltb _ _ small in
-      simp (above, below, fits)
+  digit_value b low high small = grind arith
 
   digit_more : (b : ℕ) → 48 ≤ b → b ≤ 57 → 10 * v + (b - 48) < 4294967296 → Word l (10 * v + (b - 48)) (step s b) × (0 < length (step s b).told)
   digit_more b low high small =
       let went = (digit_step b low high).0 in
       let is = word.value_is in
       let value = digit_value b low high small in
-      let long : length (take 41 (s.told ++ (b ∷ []))) ≡ min 41 (length s.told + 1) = length-take 41 (s.told ++ (b ∷ [])) ∙ ap (λ (n : ℕ). min 41 n) (length_push s.told b) in
-      let some : 0 < length (with_byte s b).told = omega arith in (
+      let some : 0 < length (with_byte s b).told = omega (arith, length-take {A = ℕ}, length_push s.told b) in (
         record { line_is = rw went word.line_is; mode_is = rw went word.mode_is; value_is = rw (went, is) value },
         rw went some,
       )
@@ -111,9 +86,7 @@ module _ (l v : ℕ) (s : State) (word : Word l v s) where
       let mode = word.mode_is in
       let is = word.value_is in
       let line = word.line_is in
-      let there : eqb (length s.told) 0 ≡ false = ne_eqb _ _ (λ (e : length s.told ≡ 0). omega arith) in
-      let there' : ltb 0 (length s.told) ≡ true = lt-ltb _ _ some in
-      (simp (mode, is, there), simp (mode, is, line, there'))
+      rw (mode, is, line) (grind arith, grind arith)
 
 abbrev Reads : ℕ → List ℕ → Type 0
 Reads n ds =
@@ -126,29 +99,23 @@ reads_one n few small l =
     let low : 48 ≤ 48 + n = omega arith in
     let high : 48 + n ≤ 57 = omega arith in
     let is : 10 * 0 + (48 + n - 48) ≡ n = omega arith in
-    let fits : 10 * 0 + (48 + n - 48) < 4294967296 = omega arith in
     let none = (digit_step l 0 (clean l) start (48 + n) low high).1 in
-    let more = digit_more l 0 (clean l) start (48 + n) low high fits in
-    (ap (λ (o : Option ℕ). option_to_list o ++ []) none, subst (λ (v : ℕ). Word l v (step (clean l) (48 + n))) is more.0, more.1)
+    let more = digit_more l 0 (clean l) start (48 + n) low high (omega arith) in
+    (rw none refl, subst (λ (v : ℕ). Word l v (step (clean l) (48 + n))) is more.0, more.1)
 
 reads_more : (n : ℕ) (ds : List ℕ) → 10 ≤ n → Reads (n / 10) ds → Reads n (ds ++ ((48 + n % 10) ∷ []))
 unfolding pages_from after
 reads_more n ds many was small l =
-    let less : n / 10 < 4294967296 = omega arith in
-    let before = was less l in
+    let before = was (omega arith) l in
     let s = after (clean l) ds in
     let low : 48 ≤ 48 + n % 10 = omega arith in
     let high : 48 + n % 10 ≤ 57 = omega arith in
     let is : 10 * (n / 10) + (48 + n % 10 - 48) ≡ n = omega arith in
-    let fits : 10 * (n / 10) + (48 + n % 10 - 48) < 4294967296 = omega arith in
     let none = (digit_step l (n / 10) s before.1 (48 + n % 10) low high).1 in
-    let more = digit_more l (n / 10) s before.1 (48 + n % 10) low high fits in
+    let more = digit_more l (n / 10) s before.1 (48 + n % 10) low high (omega arith) in
     let then = after_append (clean l) ds ((48 + n % 10) ∷ []) in
-    let pages = pages_append (clean l) ds ((48 + n % 10) ∷ []) in (
-      pages ∙ ap (λ (ps : List ℕ). ps ++ pages_from s ((48 + n % 10) ∷ [])) before.0 ∙ ap (λ (o : Option ℕ). option_to_list o ++ []) none,
-      rw then (subst (λ (v : ℕ). Word l v (step s (48 + n % 10))) is more.0),
-      rw then more.1,
-    )
+    let pages = pages_append (clean l) ds ((48 + n % 10) ∷ []) in
+    (rw (pages, before.0, none) refl, rw then (subst (λ (v : ℕ). Word l v (step s (48 + n % 10))) is more.0), rw then more.1)
 
 pub lines_back : (pages : List ℕ) (l : ℕ) → Below 4294967296 pages → pages_from (clean l) (text_of pages ++ (10 ∷ [])) ≡ pages
 unfolding pages_from text_of

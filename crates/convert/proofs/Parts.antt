@@ -1,9 +1,8 @@
 -- A piece of text packed, and a piece of bytes printed. Assumes nothing.
 --     named_packed   the pages that are in front are packed, all of them
 --     piece_decoded  the requests of a piece, as many as there is room for
-use Rattle.std.proofs.Common.{◌≡◌, ℕ, ◌*◌, ◌/◌, ◌<◌, ◌≤◌, min, List, ◌++◌, length, take, drop, sym, ap, ◌∙◌, ⊎_elim, arith}
-use Rattle.std.proofs.lemmas.List.{length-take-le, take_all, take_at}
-use Rattle.std.proofs.lemmas.Bool.{cases_lt}
+use Rattle.std.proofs.Common.{◌≡◌, ℕ, ◌*◌, ◌/◌, ◌≤◌, min, List, ◌++◌, length, take, drop, sym, ap, ◌∙◌, arith}
+use Rattle.std.proofs.lemmas.List.{length-take-le, take_all, take_at, take_min}
 use Rattle.trace.specs.Requests.{requests_in}
 use Rattle.trace.proofs.Groups.{length_requests}
 use Rattle.convert.specs.Days.{bytes_of}
@@ -27,12 +26,5 @@ pub piece_decoded :
 piece_decoded bs out row r long is read =
     let n : length (requests_in bs) ≡ length bs / 4 = length_requests bs in
     let short : r ≤ length (requests_in bs) = omega arith in
-    rw read
-    (take_at (take r (requests_in bs)) (drop r out) r (length-take-le r (requests_in bs) short)
-    ∙ ⊎_elim
-    (λ (h : length (requests_in bs) < 16384).
-    let one : length (requests_in bs) ≤ r = omega arith in
-    let two : length (requests_in bs) ≤ 16384 = omega arith in
-    take_all r (requests_in bs) one ∙ sym (take_all 16384 (requests_in bs) two))
-    (λ (h : 16384 ≤ length (requests_in bs)). let is_all : r ≡ 16384 = omega arith in rw is_all)
-    (cases_lt (length (requests_in bs)) 16384))
+    let same : r ≡ min 16384 (length (requests_in bs)) = omega arith in
+    rw read (take_at (take r (requests_in bs)) (drop r out) r (length-take-le r (requests_in bs) short) ∙ rw same (take_min 16384 (requests_in bs)))

@@ -8,11 +8,11 @@
 --     ThereAndBack     bytes that are whole requests, as text and in bytes again, are the same bytes
 --     TextThere         the pages that a text names are requested by their bytes
 use Rattle.std.specs.Prelude.{◌≡◌, ℕ, ◌^◌, ◌<◌, List, [], ◌∷◌, ◌++◌, Some}
-use Rattle.trace.specs.Headers.{header_of}
+use Rattle.trace.specs.Headers.{header_of, header_bytes}
 use Rattle.trace.specs.Requests.{requests_in, left_over}
 use Rattle.trace.specs.declared.headers.Header.{Header}
 use Rattle.text.specs.Texts.{State, pages_from, after, pages_in}
-use Rattle.convert.specs.Days.{bytes_of, header_bytes, text_of, header_line}
+use Rattle.convert.specs.Days.{bytes_of, text_of, header_line}
 
 abbrev pub Below : ℕ → List ℕ → Type 0
 Below n [] = Unit {0}

@@ -1,7 +1,6 @@
 -- A day in bytes and as text. Assumes nothing: these are definitions.
 --     page_bytes page      a page in four bytes, low byte first
 --     bytes_of pages       the pages one after the other
---     header_bytes h       a header in four bytes
 --     text_of pages        a line for each page
 --     header_line h        `# places 40 report 10`, a comment
 use Rattle.std.specs.Prelude.{ℕ, ◌/◌, ◌%◌, List, [], ◌∷◌, ◌++◌, codes, decimal}
@@ -13,9 +12,6 @@ page_bytes page = page % 256 ∷ page / 256 % 256 ∷ page / 65536 % 256 ∷ pag
 unfoldable pub bytes_of : List ℕ → List ℕ
 bytes_of [] = []
 bytes_of (page ∷ pages) = page_bytes page ++ bytes_of pages
-
-abbrev pub header_bytes : Header → List ℕ
-header_bytes h = h.capacity % 256 ∷ h.capacity / 256 % 256 ∷ h.reported % 256 ∷ h.reported / 256 % 256 ∷ []
 
 unfoldable pub text_of : List ℕ → List ℕ
 text_of [] = []

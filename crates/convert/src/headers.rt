@@ -2,10 +2,7 @@
 ghost use Rattle.std.specs.Prelude.{◌≡◌};
 ghost use Rattle.convert.specs.Headers.{header_with};
 
-use trace::Header;
-
-// The places of a cache where nobody says how many.
-const PLACES: usize = 40;
+use trace::{Header, PLACES};
 
 // The header of a day where places and report are given or not: what is not given is as in the day's own header, or, where it has none, 40
 // places and a report up to as many.
@@ -18,7 +15,7 @@ pub fn header_with(places: Option<usize>, report: Option<usize>, own: Option<Hea
             reported: report.unwrap_or(header.reported),
         },
         None => {
-            let capacity = places.unwrap_or(PLACES);
+            let capacity = places.unwrap_or(PLACES.into());
             Header {
                 capacity,
                 reported: report.unwrap_or(capacity),

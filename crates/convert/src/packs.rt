@@ -1,19 +1,7 @@
 // A day in bytes: four for each page, low byte first.
 ghost use Rattle.std.specs.Prelude.{◌≡◌, ◌+◌, ◌*◌, ◌/◌, ◌≤◌, min, ◌++◌, length, take, drop};
-ghost use Rattle.convert.specs.Days.{page_bytes, bytes_of, header_bytes};
-ghost use Rattle.convert.specs.Claims.{HeaderBack, TextThere};
-
-use trace::Header;
-
-// The four bytes of a header, of each number the two low ones. A function beside the type: `From<Header>` for an array belongs to crate `trace`.
-pub fn pack_header(header: Header) -> [u8; 4]
-    ensures value { result ≡ header_bytes header }
-    ensures back { HeaderBack }
-{
-    let [a, b, ..] = header.capacity.to_le_bytes();
-    let [c, d, ..] = header.reported.to_le_bytes();
-    [a, b, c, d]
-}
+ghost use Rattle.convert.specs.Days.{page_bytes, bytes_of};
+ghost use Rattle.convert.specs.Claims.{TextThere};
 
 // Writes a page to the four places from `at` on.
 fn put_page(out: &mut [u8], at: usize, page: u64)
@@ -24,6 +12,7 @@ fn put_page(out: &mut [u8], at: usize, page: u64)
 }
 
 // Writes the bytes of as many pages as have room to the front, and says how many bytes.
+#[tactic(auto, using(crate::proofs::Backs::text_there))]
 pub fn pack(pages: &[u64], out: &mut [u8]) -> usize
     ensures value { result ≡ 4 * min (length pages.now) (length out.old / 4) }
     ensures after { out.new ≡ take result (bytes_of pages.now) ++ drop result out.old }

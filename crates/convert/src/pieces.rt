@@ -10,7 +10,7 @@ use crate::prints::unpack;
 use std::fmt;
 use text::Reader;
 
-// How many pages are handled at once at most, in fixed memory.
+// How many pages are handled at once at most, in fixed memory. Crate `day` serves as many, and has its own number: convert stands on no day.
 const PAGES: usize = 16384;
 
 // Reads as much of a text as there is room for, at most 16,384 bytes, writes the pages that it names in bytes to the front, and says how

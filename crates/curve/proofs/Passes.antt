@@ -6,7 +6,7 @@ use Rattle.paging.specs.Lists.{has}
 use Rattle.paging.specs.Lru.{lru, lru_fetches}
 use Rattle.paging.proofs.Distance.{stack_steps, fetches_le}
 use Rattle.paging.proofs.Tallies.{Tallied, Steps, tallied_all, tallied_found, tallied_absent, counter_le}
-use Rattle.curve.specs.Counts.{Tally}
+use Rattle.curve.specs.Counts.{Tally, TallyOf}
 use Rattle.curve.specs.Stacked.{Found}
 
 pub pass_all : (hits trace stack : List ℕ) (i : ℕ) → Tallied lru_fetches hits i trace stack → i ≡ length trace → Tally trace hits
@@ -37,8 +37,11 @@ module _
           let le = counter_le lru_fetches (set hits d v) (i + 1) trace next pass_found d (omega arith) (omega arith) fetches_le in
           omega (arith, get_or-set_same hits d v 0 (omega arith))
 
--- the hits at all places are requests
-pub tally_enough : (trace hits : List ℕ) → 1 ≤ length hits → Tally trace hits → sum hits ≤ length trace
-tally_enough trace hits low tally =
+-- the hits at all places are requests, whatever it is that fetches
+pub tally_of_enough : (fetches : ℕ → List ℕ → List ℕ → ℕ) (trace hits : List ℕ) → 1 ≤ length hits → TallyOf fetches trace hits → sum hits ≤ length trace
+tally_of_enough fetches trace hits low tally =
     let all : sum (take (length hits) hits) ≡ sum hits = rw (take_all (length hits) hits (omega arith)) refl in
     omega (arith, tally (length hits) low (omega arith))
+
+pub tally_enough : (trace hits : List ℕ) → 1 ≤ length hits → Tally trace hits → sum hits ≤ length trace
+tally_enough = tally_of_enough lru_fetches

@@ -1,6 +1,6 @@
 -- The first n of a row of numbers as a stack of pages: looking for a page from the front, and putting one in front.
 use Rattle.std.proofs.Common.{◌≡◌, ℕ, zero, suc, ◌+◌, ◌-◌, ◌<◌, ◌≤◌, min, true, false, List, [], ◌∷◌, ◌++◌, length, take, drop, refl, inl, inr, add-one, arith}
-use Rattle.std.proofs.lemmas.List.{length-take, length-take-le, take_all, take-take, take_at}
+use Rattle.std.proofs.lemmas.List.{length-take, length-take-le, take_all, take-take}
 use Rattle.std.proofs.lemmas.Bool.{cases_lt}
 use Rattle.std.proofs.lemmas.Bool.Decides.{nat_tests}
 use Rattle.paging.specs.Lists.{has, without, place}
@@ -35,29 +35,24 @@ module _ (page : ℕ) (pages : List ℕ) (n : ℕ) (within : n ≤ length pages)
   stack_found d e lt = let len = length-take-le n pages within in let h = has_place page (take n pages) in grind (arith, nat_tests)
 
 -- the page stood there: those before it move
-pub lifted_found :
-    (page : ℕ) (pages after : List ℕ) (n m d : ℕ) → after ≡ lifted page d pages → n ≤ length pages → n ≤ m → d ≡ place page (take n pages) → d < n →
-    take n after ≡ lru m (take n pages) page
-unfolding lru
-lifted_found page pages after zero m d is within few e lt = absurd (omega arith)
-lifted_found page pages after (suc n) m d is within few e lt =
-    let len = length-take-le (suc n) pages within in
-    let there = stack_found page pages (suc n) within d e lt in
-    let many = length_without page (take (suc n) pages) in
-    let out = taken_out page pages n d within lt e in
-    let all = take_all m (page ∷ without page (take (suc n) pages)) (grind (arith, nat_tests)) in
-    rw (is, all, add-one, out) refl
+out_at : (page : ℕ) (pages : List ℕ) (d : ℕ) → d ≡ place page pages → d < length pages → take d pages ++ drop (suc d) pages ≡ without page pages
+unfolding without place
+out_at page [] d e lt = absurd (omega arith)
+out_at page (x ∷ xs) zero e lt = grind (arith, nat_tests)
+out_at page (x ∷ xs) (suc d) e lt = let i = out_at page xs d in grind (arith, nat_tests)
 
--- it did not: all move, and where m stand there already the last goes
-pub lifted_absent :
-    (page : ℕ) (pages after : List ℕ) (n m k e : ℕ) → after ≡ lifted page e pages → n ≤ length pages → m ≤ length pages → 1 ≤ m → k ≡ min m (n + 1) →
-    e ≡ k - 1 → has (take n pages) page ≡ false → take k after ≡ lru m (take n pages) page
+pub lifted_found :
+    (page : ℕ) (pages : List ℕ) (m d : ℕ) → length pages ≤ m → has pages page ≡ true → d ≡ place page pages → d < length pages →
+    lifted page d pages ≡ lru m pages page
 unfolding lru
-lifted_absent page pages after n zero k e is within fits low bound last absent = absurd (omega arith)
-lifted_absent page pages after n (suc m) zero e is within fits low bound last absent = absurd (omega arith)
-lifted_absent page pages after n (suc m) (suc k) e is within fits low bound last absent =
-    let same = without_absent page (take n pages) absent in
-    let twice = taken_twice m n k pages (omega arith) in
-    let before : e ≡ k = omega arith in
-    let front = take_at (take k pages) (drop (k + 1) pages) k (length-take-le k pages (omega arith)) in
-    rw (is, same, twice, before, front) refl
+lifted_found page pages m d few there e lt =
+    let many = length_without page pages in
+    let all = take_all m (page ∷ without page pages) (grind (arith, nat_tests)) in
+    rw (all, add-one, out_at page pages d e lt) refl
+
+-- it did not: where m stand there already the last goes
+pub lifted_absent :
+    (page : ℕ) (pages front : List ℕ) (m : ℕ) → 1 ≤ m → front ≡ take (m - 1) pages → has pages page ≡ false → page ∷ front ≡ lru m pages page
+unfolding lru
+lifted_absent page pages front zero pos is absent = absurd (omega arith)
+lifted_absent page pages front (suc m) pos is absent = let less : suc m - 1 ≡ m = omega arith in rw (is, less, without_absent page pages absent) refl

@@ -3,8 +3,10 @@ ghost use Rattle.std.specs.Prelude.{◌≡◌, ◌≤◌, length, replicate, sum
 ghost use Rattle.curve.specs.Counts.{Tally, Left, Fetches};
 
 use crate::stack::Stack;
+use lru_cache::Capacity;
 
-// Writes LRU's fetches from an empty cache with 1, 2 .. places, as many as the row has numbers.
+// Writes LRU's fetches from an empty cache with 1, 2 .. places, as many as the row has numbers. The row is lent, by C too, so what its
+// length may be stands in the contracts here and in no type.
 #[tactic(auto, using(crate::proofs::Passes::tally_enough))]
 pub fn count(trace: &[u64], row: &mut [u64])
     requires low { 1 ≤ length row.old }
@@ -23,7 +25,7 @@ fn tally(trace: &[u64], hits: &mut [u64])
     requires none { hits.old ≡ replicate (length hits.old) 0 }
     ensures after { Tally trace.now hits.new }
 {
-    let mut stack = Stack::new(hits.len());
+    let mut stack = Stack::new(Capacity { places: hits.len() });
     for &page in trace {
         if let Some(at) = stack.request(page) {
             hits[at] += 1;

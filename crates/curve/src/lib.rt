@@ -11,6 +11,6 @@ mod counts;
 mod entry;
 mod stack;
 
-pub use checks::{MAX_CAPACITIES, MAX_REQUESTS, check, report_len};
+pub use checks::{MAX_CAPACITIES, MAX_REQUESTS, REPORT_LEN, check, report_len};
 pub use counts::{count, settle};
 pub use entry::curve;

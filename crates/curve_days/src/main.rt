@@ -4,27 +4,24 @@
 
 mod cases;
 mod shows;
-mod simulation;
 
-use cases::{BAD_IN_SEVERAL_WAYS, EDGES};
+use cases::{BAD_THRICE, EDGES};
 use shows::{compare, show};
 use std::io;
-use traces::{BAD_CAPACITIES, BAD_TRACES, Day, Kind, LARGEST, WORKED};
+use traces::{BAD_CAPACITIES, BAD_TRACES, BAD_TWICE, Day, Kind, LARGEST, WORKED, short_days};
 
 fn main(rt: HostRuntime) -> io::Result<()> {
     let taken = WORKED.iter().chain(&EDGES).chain(&LARGEST);
     let bad = BAD_TRACES.iter().chain(&BAD_CAPACITIES);
-    for case in taken.chain(bad).chain(&BAD_IN_SEVERAL_WAYS) {
+    for case in taken.chain(bad).chain(&BAD_THRICE).chain(&BAD_TWICE) {
         show(&rt, case)?;
     }
     random(&rt)
 }
 
 fn random(rt: &HostRuntime) -> io::Result<()> {
-    for number in 0..12 {
-        for kind in [Kind::AnyPage, Kind::NearTheLast, Kind::InTurn] {
-            compare(rt, Day::short(number, kind), 120)?;
-        }
+    for day in short_days() {
+        compare(rt, day, 120)?;
     }
     let day = Day {
         requests: 4096,

@@ -5,6 +5,7 @@
 --     cache_append     and so for the cache
 use Rattle.std.proofs.Common.{◌≡◌, ℕ, Bool, true, false, ◌⊎◌, List, [], ◌∷◌, ◌++◌, length, sym, refl, ap, ◌∙◌, append_assoc, append-nil, map, Ok, Err, arith}
 use Rattle.std.proofs.lemmas.List.{length-append, length-map, map-append, length-replicate, replicate-append-replicate}
+use Rattle.paging.proofs.Fronts.{after_append}
 use Rattle.paging.specs.Lru.{lru, lru_after}
 use Rattle.recency.specs.Outcome.{outcome}
 use Rattle.recency.specs.declared.uses.Outcome.{Outcome}
@@ -47,11 +48,6 @@ outcomes_append : (k : ℕ) (cache xs ys : List ℕ) → outcomes k cache (xs ++
 unfolding outcomes lru_after
 outcomes_append k cache [] ys = refl
 outcomes_append k cache (x ∷ xs) ys = ap (λ (os : List Outcome). outcome k cache x ∷ os) (outcomes_append k (lru k cache x) xs ys)
-
-after_append : (k : ℕ) (cache xs ys : List ℕ) → lru_after k cache (xs ++ ys) ≡ lru_after k (lru_after k cache xs) ys
-unfolding lru_after
-after_append k cache [] ys = refl
-after_append k cache (x ∷ xs) ys = after_append k (lru k cache x) xs ys
 
 module _ (k : ℕ) (cache xs ys : List ℕ) where
   answers_append : (b : Bool) → is_capacity k ≡ b → answers k cache (xs ++ ys) ≡ answers k cache xs ++ answers k (cache_at_end k cache xs) ys

@@ -6,7 +6,7 @@
 --     no_report              and where none is made, it is the number of capacities
 use Rattle.std.proofs.Common.{◌≡◌, ℕ, zero, suc, ◌+◌, ◌-◌, ◌*◌, ◌<◌, ◌≤◌, Bool, true, false, ◌⊎◌, List, [], ◌∷◌, ◌++◌, length, get_or, take, drop, Some, None, sym, refl, ap, ◌∙◌, append_assoc, append-nil, arith}
 use Rattle.std.proofs.lemmas.Bool.{lt-ltb, le-ltb}
-use Rattle.std.proofs.lemmas.List.{drop_more}
+use Rattle.std.proofs.lemmas.List.{drop_more, length-take}
 use Rattle.std.proofs.lemmas.Bool.Decides.{nat_tests}
 use Rattle.paging.specs.Belady.{belady_fetches, Fewest}
 use Rattle.paging.proofs.Belady.{fewest}
@@ -75,45 +75,51 @@ module _ (trace : List ℕ) (m : ℕ) (row row' : List ℕ) (made : Reported tra
       let past : m + (c + 1) - 1 ≡ m + c = omega arith in
       rw (rw at at house, rw past at known, counts (c + 1) n (omega arith))
 
-module _ (trace : List ℕ) (total m : ℕ) where
-  pub long_report : 4096 < total → report_of trace total m ≡ refused_line (LongTrace total)
+pub long_report : (trace : List ℕ) (total m : ℕ) → 4096 < total → report_of trace total m ≡ refused_line (LongTrace total)
+unfolding report_of
+long_report trace total m long = rw (lt-ltb 4096 total long)
+
+-- a report of the requests that were kept, in a row as long as the largest
+module _ (first : List ℕ) (total m : ℕ) (kept : length first ≡ 4096) (narrow : first_wide (take total first) ≡ None) (short : total ≤ 4096) where
+  abbrev trace : List ℕ
+  trace = take total first
+
+  few : length trace ≤ 4096
+  few = omega (arith, length-take total first)
+
+  is_one : (b : Bool) → is_capacity m ≡ b → refusal trace m 8192 ≡ None → is_capacity m ≡ true
+  is_one true is none = is
+  is_one false is none =
+      let bad : (m ≡ 0) ⊎ (4096 < m) = grind (arith, nat_tests) in
+      let some = refused_capacities trace m 8192 narrow few bad in
+      let z : ◌≡◌ {A = ℕ} 0 1 = cc in absurd (omega arith)
+
+  pub row_room : refusal trace m 8192 ≡ None → 2 * m ≤ 8192
+  row_room none = let fit = is_one (is_capacity m) refl none in grind (arith, nat_tests)
+
+  pub made_report : (row row' : List ℕ) → refusal trace m 8192 ≡ None → Reported trace m row row' → row_lines row' m 0 m ≡ report_of trace total m
   unfolding report_of
-  long_report long = rw (lt-ltb 4096 total long)
+  made_report row row' none made =
+      let fit = is_one (is_capacity m) refl none in
+      rw (le-ltb 4096 total short, fit) (counts trace m row row' made 0 m (omega arith))
 
-  module _ (short : total ≤ 4096) (few : length trace ≤ 4096) (narrow : first_wide trace ≡ None) (len : ℕ) (room : 8192 ≤ len) where
-    is_one : (b : Bool) → is_capacity m ≡ b → refusal trace m len ≡ None → is_capacity m ≡ true
-    is_one true is none = is
-    is_one false is none =
-        let bad : (m ≡ 0) ⊎ (4096 < m) = grind (arith, nat_tests) in
-        let some = refused_capacities trace m len narrow few bad in
-        let z : ◌≡◌ {A = ℕ} 0 1 = cc in absurd (omega arith)
+  record Why (e : Refusal) : Type 0 where
+    no_capacity : is_capacity m ≡ false
+    reason : e ≡ BadCapacities m
 
-    pub row_room : refusal trace m len ≡ None → 2 * m ≤ 8192
-    row_room none = let fit = is_one (is_capacity m) refl none in grind (arith, nat_tests)
+  why : (b : Bool) (e : Refusal) → is_capacity m ≡ b → refusal trace m 8192 ≡ Some e → Why e
+  why true e is some =
+      let low : 1 ≤ m = grind (arith, nat_tests) in
+      let high : m ≤ 4096 = grind (arith, nat_tests) in
+      let none = refused_none trace m 8192 narrow few low high (omega arith) in
+      let z : ◌≡◌ {A = ℕ} 0 1 = cc in absurd (omega arith)
+  why false e is some =
+      let bad : (m ≡ 0) ⊎ (4096 < m) = grind (arith, nat_tests) in
+      let other = refused_capacities trace m 8192 narrow few bad in
+      record { no_capacity = is; reason = cc }
 
-    pub made_report : (row row' : List ℕ) → refusal trace m len ≡ None → Reported trace m row row' → row_lines row' m 0 m ≡ report_of trace total m
-    unfolding report_of
-    made_report row row' none made =
-        let fit = is_one (is_capacity m) refl none in
-        rw (le-ltb 4096 total short, fit) (counts trace m row row' made 0 m (omega arith))
-
-    record Why (e : Refusal) : Type 0 where
-      no_capacity : is_capacity m ≡ false
-      reason : e ≡ BadCapacities m
-
-    why : (b : Bool) (e : Refusal) → is_capacity m ≡ b → refusal trace m len ≡ Some e → Why e
-    why true e is some =
-        let low : 1 ≤ m = grind (arith, nat_tests) in
-        let high : m ≤ 4096 = grind (arith, nat_tests) in
-        let none = refused_none trace m len narrow few low high (omega arith) in
-        let z : ◌≡◌ {A = ℕ} 0 1 = cc in absurd (omega arith)
-    why false e is some =
-        let bad : (m ≡ 0) ⊎ (4096 < m) = grind (arith, nat_tests) in
-        let other = refused_capacities trace m len narrow few bad in
-        record { no_capacity = is; reason = cc }
-
-    pub no_report : (e : Refusal) → refusal trace m len ≡ Some e → refused_line e ≡ report_of trace total m
-    unfolding report_of
-    no_report e some =
-        let w = why (is_capacity m) e refl some in
-        rw (le-ltb 4096 total short, w.no_capacity, w.reason)
+  pub no_report : (e : Refusal) → refusal trace m 8192 ≡ Some e → refused_line e ≡ report_of trace total m
+  unfolding report_of
+  no_report e some =
+      let w = why (is_capacity m) e refl some in
+      rw (le-ltb 4096 total short, w.no_capacity, w.reason)

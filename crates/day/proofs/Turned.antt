@@ -25,15 +25,10 @@ empty_ready row m none long room fits =
     let empty : cached row ≡ [] = ap (λ (n : ℕ). take n (drop 2 row)) none in
     fault_pages row m good (omega arith) ∙ ap (first_bad 2 []) empty
 
-pub record Empty (row : List ℕ) (k : ℕ) : Type 0 where
-  pub ready : (m : ℕ) → 36869 ≤ m → Ready row m
-  pub capacity_is : capacity row ≡ k
-  pub none : cached row ≡ []
-
-pub emptied : (row : List ℕ) (k : ℕ) → 4098 ≤ length row → Empty (set (set row 0 k) 1 0) k
-emptied [] k long = absurd (omega arith)
-emptied (a ∷ []) k long = absurd (omega arith)
-emptied (a ∷ b ∷ rest) k long = record { ready = λ m room. empty_ready (k ∷ 0 ∷ rest) m refl long room; capacity_is = refl; none = refl }
+pub emptied : (row : List ℕ) (k m : ℕ) → 4098 ≤ length row → 36869 ≤ m → Ready (set (set row 0 k) 1 0) m
+emptied [] k m long fits = absurd (omega arith)
+emptied (a ∷ []) k m long fits = absurd (omega arith)
+emptied (a ∷ b ∷ rest) k m long fits = empty_ready (k ∷ 0 ∷ rest) m refl long fits
 
 unfit : (row : List ℕ) (m : ℕ) → is_capacity (capacity row) ≡ false → fault row m ≡ Some NoCache
 unfit row m not-one = let bad : shaped row m ≡ false = grind (arith, nat_tests) in fault_unshaped row m bad

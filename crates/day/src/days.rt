@@ -1,29 +1,24 @@
 // A day of requests: the rows of its cache, and what its report is made of.
-ghost use Rattle.std.specs.Prelude.{◌≡◌, ◌≤◌, true, ◌++◌, length, take, is_ok, None, string_bytes};
+ghost use Rattle.std.specs.Prelude.{◌≡◌, true, ◌++◌, length, take, is_ok, None, string_bytes};
 ghost use Rattle.trace.specs.Requests.{requests_in};
 ghost use Rattle.lru_cache.specs.Rows.{capacity, cached, first_wide};
 ghost use Rattle.day.specs.Said.{Ready, lines_for};
 ghost use Rattle.day.specs.Reports.{report_of};
 
-use crate::pieces::{empty, keep, serve_bytes};
+use crate::pieces::{CACHE_LEN, Piece, empty, keep, serve_bytes};
 use crate::reports::tell_report;
 use curve::MAX_REQUESTS;
-use recency::MAX_CAPACITY;
+use recency::LARGEST_ROW;
 use std::fmt;
 use trace::Header;
-
-// As long as the rows of the largest capacity.
-const CACHE_LEN: usize = 2 + MAX_CAPACITY;
-
-const INDEX_LEN: usize = 9 * MAX_CAPACITY + 5;
 
 #[derive(Drop)]
 pub struct Day {
     cache: [u64; CACHE_LEN],
-    index: [u64; INDEX_LEN],
-    // the first requests, as many as a report is made of, in fixed memory
+    index: [u64; LARGEST_ROW],
+    // the first requests, as many as a report is made of: an array, since a day takes no heap, and `decode` writes to its places
     pub first: [u64; MAX_REQUESTS],
-    // how many requests there were
+    // how many requests there were, those that were not kept too: so it is no length of `first`
     pub total: u64,
     // how many capacities the report goes up to
     pub reported: usize,
@@ -42,7 +37,7 @@ impl Day {
     {
         let mut day = Day {
             cache: [0; CACHE_LEN],
-            index: [0; INDEX_LEN],
+            index: [0; LARGEST_ROW],
             first: [0; MAX_REQUESTS],
             total: 0,
             reported: header.reported,
@@ -51,14 +46,13 @@ impl Day {
         day
     }
 
-    // Serves the requests that the bytes hold whole, and adds their lines to the text.
-    pub fn serve(&mut self, bytes: &[u8], text: &mut String) -> fmt::Result
-        requires short { length bytes.now ≤ 65536 }
-        ensures went { Went self.old (requests_in bytes.now) self.new }
-        ensures lines { is_ok result ≡ true → string_bytes text.new ≡ string_bytes text.old ++ lines_for (capacity self.old.cache) (cached self.old.cache) (requests_in bytes.now) }
+    // Serves the requests that a piece holds whole, and adds their lines to the text.
+    pub fn serve(&mut self, piece: Piece<'_>, text: &mut String) -> fmt::Result
+        ensures went { Went self.old (requests_in piece.entry.bytes.now) self.new }
+        ensures lines { is_ok result ≡ true → string_bytes text.new ≡ string_bytes text.old ++ lines_for (capacity self.old.cache) (cached self.old.cache) (requests_in piece.entry.bytes.now) }
     {
-        self.total = keep(&mut self.first, self.total, bytes);
-        serve_bytes(&mut self.cache, &mut self.index, bytes, text)
+        self.total = keep(&mut self.first, self.total, piece.bytes);
+        serve_bytes(&mut self.cache, &mut self.index, piece.bytes, text)
     }
 
     // The first requests, those that its report is made of: all of them, or as many as there is room for.

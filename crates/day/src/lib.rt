@@ -7,4 +7,4 @@ mod replies;
 mod reports;
 
 pub use days::Day;
-pub use pieces::PIECE;
+pub use pieces::{PIECE, Piece};

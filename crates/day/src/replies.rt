@@ -37,7 +37,7 @@ fn line(page: u64, outcome: Outcome) -> Line
     }
 }
 
-// Adds the lines of a trace's requests to the text.
+// Adds the lines of a trace's requests to the text. No `Display`: a trace with what was found would need a type of its own, for one call.
 pub(crate) fn tell(trace: &[u64], found: &[Outcome], text: &mut String) -> fmt::Result
     ensures lines { is_ok result ≡ true → string_bytes text.new ≡ string_bytes text.old ++ lines_of trace.now (map Ok found.now) }
 {

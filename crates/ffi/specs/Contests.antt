@@ -6,17 +6,17 @@
 use Rattle.std.specs.Prelude.{◌≡◌, ℕ, suc, ◌+◌, ◌-◌, ◌*◌, cond, ◌&&◌, ◌⊎◌, List, ◌∷◌, drop, Some, None, Option, nat_le}
 use Rattle.lru_cache.specs.declared.refusals.Refusal.{Refusal}
 use Rattle.lru_cache.specs.declared.refusals.Refusal.TheVariants.{NoCache, BadPlaces}
-use Rattle.runs.specs.declared.counts.Counts.{Counts}
+use Rattle.trace.specs.declared.totals.Totals.{Totals}
 use Rattle.ffi.specs.Numbers.{as_count, starved}
 
 abbrev pub no_contest : ℕ → ℕ → ℕ → Option Refusal
 no_contest k h n =
     cond (nat_le 3 n && (nat_le 1 k && nat_le k 4096)) (cond (nat_le 1 h && nat_le h k) None (Some (BadPlaces h))) (Some NoCache)
 
-pub record Counted (k h m : ℕ) (c : Counts) : Type 0 where
-  pub requests : c.requests ≡ h + m * k
-  pub fetches : c.fetches ≡ h + m * k
-  pub beside : c.beside ≡ h + m * (suc k - h)
+pub record Counted (k h m : ℕ) (c : Totals) : Type 0 where
+  pub asked : c.asked ≡ h + m * k
+  pub keeper : c.keeper ≡ h + m * k
+  pub rival : c.rival ≡ h + m * (suc k - h)
 
 pub record Ended (k h m : ℕ) (counts : List ℕ) (r : ℕ) (counts' : List ℕ) : Type 0 where
   pub value : r ≡ as_count (h + m * k)

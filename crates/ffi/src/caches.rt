@@ -18,7 +18,7 @@ pub extern "C" fn dq_open(k: usize, cache: &mut [u64], index: &mut [u64]) -> u64
     if cache.len() < 2 + k || index.len() < len {
         return refuse(Refusal::NoCache);
     }
-    let _ = recency::clear(index, k);
+    recency::clear(index, k);
     lru_cache::close(cache, index, k);
     count(0)
 }
@@ -36,8 +36,5 @@ pub extern "C" fn dq_serve(cache: &mut [u64], index: &mut [u64], page: u64) -> u
 pub extern "C" fn dq_play(cache: &mut [u64], index: &mut [u64], trace: &[u64]) -> u64
     ensures cases { MatchOption (refusal cache.old (length index.old) trace.now) (Counted cache.old index.old trace.now result cache.new index.new) (λ e. Untouched e cache.old index.old result cache.new index.new) }
 {
-    match lru_cache::play(cache, index, trace, &mut []) {
-        Ok(fetches) => count(fetches),
-        Err(refusal) => refuse(refusal),
-    }
+    lru_cache::play(cache, index, trace, &mut []).map_or_else(refuse, count)
 }

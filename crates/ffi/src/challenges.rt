@@ -6,12 +6,9 @@ ghost use Rattle.ffi.specs.Numbers.{as_refusal};
 ghost use Rattle.ffi.specs.States.{stands};
 
 use crate::packs::{count, name, refuse};
-use crate::states::{read, write};
+use crate::states::{STATE_LEN, read, write};
 use adversary::Challenge;
 use lru_cache::Refusal;
-
-// How many numbers say where a challenge stands.
-const STATE_LEN: usize = 8;
 
 // Writes where a challenge of a policy with k places beside a schedule with h stands before the first request.
 #[unsafe(no_mangle)]
@@ -21,6 +18,7 @@ pub extern "C" fn dq_begin(k: usize, h: usize, state: &mut [u64], row: &[u64]) -
     if state.len() < STATE_LEN {
         return refuse(Refusal::NoCache);
     }
+    // a match, here and in dq_step: of what a closure writes into a lent row nothing is known
     match Challenge::begin(k, h, row) {
         Ok(challenge) => {
             write(state, challenge);
@@ -55,6 +53,7 @@ pub extern "C" fn dq_accept(state: &[u64], row: &[u64], shown: &[u64]) -> u64
     let Some(challenge) = read(state, row.len()) else {
         return refuse(Refusal::NoCache);
     };
+    // a match, since with `map_or_else(refuse, |()| count(0))` the proof did not close
     match challenge.accept(row, shown) {
         Ok(()) => count(0),
         Err(refusal) => refuse(refusal),

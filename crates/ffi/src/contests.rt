@@ -6,28 +6,28 @@ ghost use Rattle.ffi.specs.Numbers.{as_unknown, as_refusal};
 
 use crate::packs::{count, refuse, starve, unknown};
 use crate::sides::Sides;
+use adversary::row_len;
 use fifo::Fifo;
 use least_requested::LeastRequested;
-use lru_cache::Refusal;
+use lru_cache::{Refusal, Stop};
 use policies::{Lru, WithCapacity};
-use recency::MAX_CAPACITY;
-use runs::Counts;
-use std::alloc::{AllocError, Global};
-use trace::PolicyKind;
+use recency::Capacity;
+use std::alloc::Global;
+use trace::{PolicyKind, Totals};
 
 // Runs a challenge of a new policy.
-fn run<P: WithCapacity + Drop>(heap: Global, sides: Sides) -> Result<Counts, AllocError>
-    ensures counted { IfOk result (Counted sides.k sides.h sides.rounds) }
+fn run<P: WithCapacity + Drop>(heap: Global, sides: Sides) -> Result<Totals, Stop>
+    ensures counted { IfOk result (Counted sides.capacity.places sides.h sides.rounds) }
 {
-    let Sides { k, h, rounds } = sides;
-    let mut row = vec![in heap; 0u64; 3 * k + 1]?;
-    let mut keeper = P::with_capacity(heap, k)?.unwrap();
-    Ok(runs::run(&mut keeper, k, h, rounds as u32, row.as_mut_slice()).unwrap())
+    let k = sides.capacity.places;
+    let mut row = vec![in heap; 0u64; row_len(k).unwrap()]?;
+    let mut keeper = P::with_capacity(heap, k)?;
+    Ok(runs::run(&mut keeper, k, sides.h, u32::from(sides.rounds), &mut row).unwrap())
 }
 
-// The same for the policy of that kind.
-fn run_kind(heap: Global, kind: PolicyKind, sides: Sides) -> Result<Counts, AllocError>
-    ensures counted { IfOk result (Counted sides.k sides.h sides.rounds) }
+// The same for the policy of that kind. The match stands here and in `contest`: a policy is a type parameter, and no function hands a type out.
+fn run_kind(heap: Global, kind: PolicyKind, sides: Sides) -> Result<Totals, Stop>
+    ensures counted { IfOk result (Counted sides.capacity.places sides.h sides.rounds) }
 {
     match kind {
         PolicyKind::Lru => run::<Lru>(heap, sides),
@@ -60,15 +60,24 @@ pub extern "C" fn dq_contest(
     let Some(kind) = kind_of(number) else {
         return unknown(number);
     };
-    if counts.len() < 3 || k == 0 || k > MAX_CAPACITY {
+    if counts.len() < 3 {
         return refuse(Refusal::NoCache);
     }
+    let Some(capacity) = Capacity::new(k) else {
+        return refuse(Refusal::NoCache);
+    };
+    // `Challenge::begin` tests this too, on a row that is made by then: here it is told where there is no memory as well
     if h == 0 || h > k {
         return refuse(Refusal::BadPlaces(h as u64));
     }
-    let Ok(told) = run_kind(heap, kind, Sides { k, h, rounds }) else {
+    let sides = Sides {
+        capacity,
+        h,
+        rounds,
+    };
+    let Ok(told) = run_kind(heap, kind, sides) else {
         return starve();
     };
-    counts[..3].copy_from_slice(&[told.requests, told.fetches, told.beside]);
-    count(told.requests)
+    counts[..3].copy_from_slice(&[told.asked, told.keeper, told.rival]);
+    count(told.asked)
 }

@@ -10,8 +10,5 @@ use crate::packs::{count, refuse};
 pub extern "C" fn dq_report(trace: &[u64], m: usize, row: &mut [u64]) -> u64
     ensures cases { MatchOption (refusal trace.now m (length row.old)) (Written trace.now m row.old result row.new) (λ e. Unwritten e row.old result row.new) }
 {
-    match belady::report(trace, m, row) {
-        Ok(()) => count(m as u64),
-        Err(refusal) => refuse(refusal),
-    }
+    belady::report(trace, m, row).map_or_else(refuse, |()| count(m as u64))
 }

@@ -3,7 +3,11 @@ ghost use Rattle.std.specs.Prelude.{◌≡◌, ◌≤◌, false, ◌++◌, lengt
 ghost use Rattle.ffi.specs.States.{stands, numbers_of, Stands};
 
 use adversary::Challenge;
+use lru_cache::PAGE_LIMIT;
 use recency::MAX_CAPACITY;
+
+// How many numbers say where a challenge stands.
+pub(crate) const STATE_LEN: usize = 8;
 
 // The challenge whose numbers these are, where an adversary's row of `len` numbers is long enough for it. They may come from anywhere, so all
 // that holds of a challenge's numbers is tested.
@@ -13,10 +17,10 @@ pub(crate) fn read(state: &[u64], len: usize) -> Option<Challenge>
     let &[k, h, next, listed, noted, picks, shown, last, ..] = state else {
         return None;
     };
-    if h < 1 || h > k || k > MAX_CAPACITY as u64 {
+    if h == 0 || h > k || k > MAX_CAPACITY as u64 {
         return None;
     }
-    if listed > k + 1 || listed >= next || next > 0x1_0000_0000 {
+    if listed > k + 1 || listed >= next || next > PAGE_LIMIT {
         return None;
     }
     if noted > picks || picks >= h {
@@ -45,7 +49,7 @@ pub(crate) fn write(state: &mut [u64], challenge: Challenge)
     requires long { 8 ≤ length state.old }
     ensures after { state.new ≡ numbers_of challenge ++ drop 8 state.old }
 {
-    state[..8].copy_from_slice(&[
+    state[..STATE_LEN].copy_from_slice(&[
         challenge.k as u64,
         challenge.h as u64,
         challenge.next,

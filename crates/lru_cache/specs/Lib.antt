@@ -1,4 +1,5 @@
 pub mod Refusals
+pub mod Stops
 pub mod Rows
 pub mod Outcomes
 pub mod Promises

@@ -8,6 +8,7 @@
 --     fault row m             why the row is no cache row with an index row of m numbers, or None
 --     first_wide trace        the first page of the trace that is not below 2^32, as a refusal, or None
 --     refusal row m trace     why the trace is not played on the row, or None
+--     unplayed k trace        why the trace is not played from an empty cache of k places, or None
 use Rattle.std.specs.Prelude.{ℕ, suc, ◌+◌, ◌-◌, ◌*◌, ◌^◌, Bool, cond, ◌&&◌, ◌||◌, List, [], ◌∷◌, ◌++◌, length, take, drop, replicate, Some, None, Option, nat_le, slice_index}
 use Rattle.paging.specs.Lists.{has}
 use Rattle.lru_cache.specs.declared.refusals.Refusal.{Refusal}
@@ -43,3 +44,6 @@ or_else (Some e) f = Some e
 
 unfoldable pub refusal : List ℕ → ℕ → List ℕ → Option Refusal
 refusal row m trace = or_else (fault row m) (first_wide trace)
+
+abbrev pub unplayed : ℕ → List ℕ → Option Refusal
+unplayed k trace = cond (nat_le 1 k && nat_le k 4096) (first_wide trace) (Some NoCache)

@@ -5,18 +5,10 @@ ghost use Rattle.lru_cache.specs.Rows.{capacity, shaped, first_bad, fault, first
 ghost use Rattle.lru_cache.specs.Promises.{Shaped, Checked};
 
 use crate::refusals::Refusal;
-use recency::{MAX_CAPACITY, row_len};
+use recency::{Capacity, LARGEST_ROW, SMALL_CAPACITY, SMALL_ROW};
 
-// The first number that is no page.
-const WIDE: u64 = 0x1_0000_0000;
-
-// A capacity: how many places, 1 to 4,096.
-#[derive(Clone, Copy)]
-struct Capacity {
-    places: usize,
-    ghost low: { 1 ≤ places },
-    ghost high: { places ≤ 4096 },
-}
+// A page is a number below this.
+pub const PAGE_LIMIT: u64 = 0x1_0000_0000;
 
 // The capacity of a cache row with room for it, where an index row of `index_len` numbers is long enough.
 fn shape(cache: &[u64], index_len: usize) -> Option<Capacity>
@@ -25,66 +17,66 @@ fn shape(cache: &[u64], index_len: usize) -> Option<Capacity>
     let [capacity, _, ..] = cache else {
         return None;
     };
-    let places = *capacity as usize;
-    let len = row_len(places)?;
-    if cache.len() < 2 + places || index_len < len {
+    let k = Capacity::new(*capacity as usize)?;
+    if cache.len() < 2 + k.places || index_len < k.row_len() {
         return None;
     }
-    Some(Capacity { places })
+    Some(k)
 }
 
-// Whether each page is below 2^32 and equals none before it, or the first that is not. `seen` becomes an index of the pages passed,
-// whatever it held.
-#[tactic(auto, using(crate::proofs::Scans::scan_wide, crate::proofs::Scans::scan_twice, crate::proofs::Scans::scan_all))]
-fn scan(pages: &[u64], k: Capacity, seen: &mut [u64]) -> Result<(), Refusal>
-    requires room { 9 * k.places + 5 ≤ length seen.old }
-    requires few { length pages.now ≤ k.places }
-    ensures value { result_err result ≡ first_bad 2 [] pages.now }
-{
-    let _ = recency::clear(seen, k.places);
-    for (i, &page) in pages.iter().enumerate() {
-        if page >= WIDE || recency::contains(seen, k.places, page) {
-            return Err(Refusal::BadPage(2 + i as u64));
+// Between a small cache and any other a middling one is checked with an index of its own: a larger one costs more to clear than such a
+// cache to serve.
+const MIDDLE_CAPACITY: usize = 512;
+
+const MIDDLE_ROW: usize = 9 * MIDDLE_CAPACITY + 5;
+
+// The pages of a cache row, which are no more than it has places.
+#[derive(Clone, Copy)]
+struct Held<'a> {
+    pages: &'a [u64],
+    capacity: Capacity,
+    ghost few: { length pages.now ≤ capacity.places },
+}
+
+impl Held<'_> {
+    // Whether each page is below 2^32 and equals none before it, or the first that is not. `seen` becomes an index of the pages passed,
+    // whatever it held.
+    #[tactic(auto, using(crate::proofs::Scans::scan_wide, crate::proofs::Scans::scan_twice, crate::proofs::Scans::scan_all))]
+    fn scan(&self, seen: &mut [u64]) -> Result<(), Refusal>
+        requires room { 9 * self.now.capacity.places + 5 ≤ length seen.old }
+        ensures value { result_err result ≡ first_bad 2 [] self.now.pages.now }
+    {
+        let k = self.capacity.places;
+        recency::clear(seen, k);
+        for (i, &page) in self.pages.iter().enumerate() {
+            if page >= PAGE_LIMIT || recency::contains(seen, k, page) {
+                return Err(Refusal::BadPage(2 + i as u64));
+            }
+            recency::fill(seen, k, page);
         }
-        recency::fill(seen, k.places, page);
+        Ok(())
     }
-    Ok(())
-}
 
-// The same with an index of N numbers of its own, so that nothing lent is touched.
-fn scan_apart<const N: usize>(pages: &[u64], k: Capacity) -> Result<(), Refusal>
-    requires room { 9 * k.places + 5 ≤ N }
-    requires size { N ≤ 65536 }
-    requires few { length pages.now ≤ k.places }
-    ensures value { result_err result ≡ first_bad 2 [] pages.now }
-{
-    let mut seen = [0u64; N];
-    scan(pages, k, &mut seen)
-}
-
-// What a small cache is checked with, a middling one, and any other. A larger one costs more to clear than such a cache to serve.
-const SMALL: usize = 64;
-
-const MIDDLE: usize = 512;
-
-const SMALL_INDEX: usize = 9 * SMALL + 5;
-
-const MIDDLE_INDEX: usize = 9 * MIDDLE + 5;
-
-const LARGE_INDEX: usize = 9 * MAX_CAPACITY + 5;
-
-// The pages of a cache row, checked with an index row of that size.
-fn first_fault(pages: &[u64], k: Capacity) -> Result<(), Refusal>
-    requires few { length pages.now ≤ k.places }
-    ensures value { result_err result ≡ first_bad 2 [] pages.now }
-{
-    if k.places <= SMALL {
-        return scan_apart::<SMALL_INDEX>(pages, k);
+    // The same with an index of N numbers of its own, so that nothing lent is touched.
+    fn scan_apart<const N: usize>(&self) -> Result<(), Refusal>
+        requires room { 9 * self.now.capacity.places + 5 ≤ N }
+        requires size { N ≤ 65536 }
+        ensures value { result_err result ≡ first_bad 2 [] self.now.pages.now }
+    {
+        let mut seen = [0u64; N];
+        self.scan(&mut seen)
     }
-    if k.places <= MIDDLE {
-        return scan_apart::<MIDDLE_INDEX>(pages, k);
+
+    // The same with an index of a size that fits the capacity.
+    fn first_fault(&self) -> Result<(), Refusal>
+        ensures value { result_err result ≡ first_bad 2 [] self.now.pages.now }
+    {
+        match self.capacity.places {
+            0..=SMALL_CAPACITY => self.scan_apart::<SMALL_ROW>(),
+            0..=MIDDLE_CAPACITY => self.scan_apart::<MIDDLE_ROW>(),
+            _ => self.scan_apart::<LARGEST_ROW>(),
+        }
     }
-    scan_apart::<LARGE_INDEX>(pages, k)
 }
 
 // The capacity of a cache row and how many pages it holds, where it is one and an index row of `index_len` numbers is long enough. A pair,
@@ -97,7 +89,11 @@ pub fn check(cache: &[u64], index_len: usize) -> Result<(usize, usize), Refusal>
     if n > k.places {
         return Err(Refusal::Overfull);
     }
-    first_fault(&cache[2..2 + n], k)?;
+    let held = Held {
+        pages: &cache[2..2 + n],
+        capacity: k,
+    };
+    held.first_fault()?;
     Ok((k.places, n))
 }
 
@@ -106,8 +102,9 @@ pub fn check(cache: &[u64], index_len: usize) -> Result<(usize, usize), Refusal>
 pub fn first_wide(trace: &[u64]) -> Result<(), Refusal>
     ensures value { result_err result ≡ first_wide trace.now }
 {
+    // A loop: by `find` each request takes 2 instructions more, and has none to spare beside the ring in C (docs/PERFORMANCE.md).
     for &page in trace {
-        if page >= WIDE {
+        if page >= PAGE_LIMIT {
             return Err(Refusal::BadRequest(page));
         }
     }

@@ -6,13 +6,14 @@ ghost use Rattle.recency.specs.Outcome.{outcome};
 ghost use Rattle.recency.specs.Row as recent;
 ghost use Rattle.recency.specs.Sound.{Sound};
 ghost use Rattle.lru_cache.specs.Outcomes.{fetches_of, outcomes};
-ghost use Rattle.lru_cache.specs.Rows.{refusal};
-ghost use Rattle.lru_cache.specs.Promises.{Indexed, Played, Served};
+ghost use Rattle.lru_cache.specs.Rows.{refusal, unplayed};
+ghost use Rattle.lru_cache.specs.Promises.{Bounded, Indexed, Played, Served};
 
 use crate::checks::{check, first_wide};
+use crate::indexes::{close, open};
 use crate::refusals::Refusal;
-use crate::rows::{close, open};
-use recency::Outcome;
+use recency::{LARGEST_ROW, Outcome};
+use rows::write_at;
 
 // How many fetches an outcome stands for.
 fn cost(outcome: Outcome) -> u64
@@ -21,16 +22,6 @@ fn cost(outcome: Outcome) -> u64
     match outcome {
         Outcome::Hit => 0,
         Outcome::Filled | Outcome::Evicted(_) => 1,
-    }
-}
-
-// Writes an outcome, where there is a place for it.
-fn note(found: &mut [Outcome], i: usize, outcome: Outcome)
-    ensures after { found.new ≡ slice_set found.old i outcome }
-{
-    // By number: what is written through `get_mut` is not known afterwards.
-    if i < found.len() {
-        found[i] = outcome;
     }
 }
 
@@ -44,7 +35,7 @@ fn run(index: &mut [u64], k: usize, trace: &[u64], found: &mut [Outcome]) -> u64
     let mut fetches = 0;
     for (i, &page) in trace.iter().enumerate() {
         let outcome = recency::request(index, k, page);
-        note(found, i, outcome);
+        write_at(found, i, outcome);
         fetches += cost(outcome);
     }
     fetches
@@ -70,7 +61,20 @@ pub fn play(
     Ok(fetches)
 }
 
-// One request on an open index of capacity k: recency's, with what it leaves said as `open` says it.
+// How many requests of a trace LRU fetches from an empty cache of k places, on an index of its own.
+pub fn fetches(trace: &[u64], k: usize) -> Result<u64, Refusal>
+    ensures counted { IfOk result (λ n. (n ≡ lru_fetches k [] trace.now) × Bounded k trace.now n) }
+    ensures refused { result_err result ≡ unplayed k trace.now }
+{
+    let mut index = [0; LARGEST_ROW];
+    if !recency::clear(&mut index, k) {
+        return Err(Refusal::NoCache);
+    }
+    first_wide(trace)?;
+    Ok(run(&mut index, k, trace, &mut []))
+}
+
+// One request on an open index of capacity k: recency's, public here too, with what it leaves said as `open` says it.
 pub fn request(index: &mut [u64], k: usize, page: u64) -> Outcome
     requires sound { Sound k index.old }
     ensures value { result ≡ outcome k (recent.pages index.old) page }

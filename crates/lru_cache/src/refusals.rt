@@ -2,6 +2,7 @@
 ghost use Rattle.std.specs.Prelude.{◌≡◌, Some};
 ghost use Rattle.lru_cache.specs.Refusals.{number_of, place_of, refusal_bytes};
 
+use crate::checks::PAGE_LIMIT;
 use std::error::Error;
 use std::fmt;
 
@@ -31,7 +32,7 @@ pub enum Refusal {
 }
 
 impl Refusal {
-    // The number of the reason.
+    // The number of the reason: C is answered one number, and the programs print it.
     pub fn number(self) -> u64
         ensures value { result ≡ number_of self }
     {
@@ -47,21 +48,21 @@ impl Refusal {
         }
     }
 
-    // Where it applies. Arm by arm, as the definition has it: each names what its number is.
+    // Where it applies.
     pub fn place(self) -> u64
         ensures value { result ≡ place_of self }
     {
         match self {
             Refusal::NoCache => 0,
             Refusal::Overfull => 1,
-            Refusal::BadPage(at) => at,
-            Refusal::BadRequest(page) => page,
-            Refusal::LongTrace(len) => len,
-            Refusal::BadCapacities(m) => m,
-            Refusal::ShortReport(len) => len,
-            Refusal::BadPlaces(h) => h,
-            Refusal::BrokenRule(at) => at,
-            Refusal::NoPageLeft => 0x1_0000_0000,
+            Refusal::BadPage(n)
+            | Refusal::BadRequest(n)
+            | Refusal::LongTrace(n)
+            | Refusal::BadCapacities(n)
+            | Refusal::ShortReport(n)
+            | Refusal::BadPlaces(n)
+            | Refusal::BrokenRule(n) => n,
+            Refusal::NoPageLeft => PAGE_LIMIT,
         }
     }
 }

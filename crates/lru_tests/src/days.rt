@@ -1,24 +1,10 @@
 // Days that are served to their end.
-use crate::rows::{Row, UNTOUCHED, lay, play, serve, told};
+use crate::lent::{Row, UNTOUCHED, lay, play, serve};
 use lru_cache::Outcome::{Evicted, Filled, Hit};
-use lru_cache::{Outcome, Refusal};
+use lru_cache::{Outcome, PAGE_LIMIT, Refusal};
 use std::alloc::{AllocError, Global};
 use std::test::Fail;
-use traces::{TEN, draw};
-
-// What the ten requests find.
-const FOUND: [Outcome; 10] = [
-    Filled,
-    Filled,
-    Filled,
-    Hit,
-    Evicted(2),
-    Hit,
-    Evicted(3),
-    Evicted(4),
-    Evicted(1),
-    Evicted(2),
-];
+use traces::{TEN, TEN_FIND, TOP, begins, draw};
 
 // The cache row after each of them.
 const ROWS: [[u64; 5]; 10] = [
@@ -36,15 +22,9 @@ const ROWS: [[u64; 5]; 10] = [
 
 // Whether the ten requests, one by one on rows of 5 and 32 numbers with more behind them, go as they must.
 fn one_by_one(cache: &mut Row, index: &mut Row) -> bool {
-    for (i, &page) in TEN.iter().enumerate() {
-        if serve(cache, index, page) != Ok(FOUND[i]) {
-            return false;
-        }
-        if !cache.holds(&ROWS[i]) || !index.is_noise_from(32) {
-            return false;
-        }
-    }
-    true
+    TEN.iter().zip(&TEN_FIND).zip(&ROWS).all(|((&page, &outcome), row)| {
+        serve(cache, index, page) == Ok(outcome) && cache.holds(row) && index.is_noise_from(32)
+    })
 }
 
 // The free places hold noise at the beginning.
@@ -66,7 +46,7 @@ fn by_hand(cache: &mut [u64], index: &mut [u64], page: u64) -> Result<Outcome, R
     Ok(outcome)
 }
 
-// Whether a row of capacity 3 answers so by the four calls, and is left so.
+// Whether a row of capacity 3 answers so by the four calls, and is left so. No struct: a case is one line, as for `serves`.
 fn goes_by_hand(
     heap: Global,
     front: &[u64],
@@ -96,7 +76,7 @@ fn ten_requests_at_once(rt: HostRuntime) -> Result<(), Fail> {
     let mut index = Row::new(heap, &[], 32)?;
     let mut found = [UNTOUCHED; 12];
     assert!(rt; play(&mut cache, &mut index, &TEN, &mut found) == Ok(8));
-    assert!(rt; told(&found, &FOUND));
+    assert!(rt; begins(&found, &TEN_FIND, &UNTOUCHED));
     assert!(rt; cache.holds(&[3, 3, 1, 3, 5]) && index.is_noise_from(32));
     Ok(())
 }
@@ -108,7 +88,7 @@ fn no_requests(rt: HostRuntime) -> Result<(), Fail> {
     let mut index = Row::new(heap, &[], 32)?;
     let mut found = [UNTOUCHED; 1];
     assert!(rt; play(&mut cache, &mut index, &[], &mut found) == Ok(0));
-    assert!(rt; told(&found, &[]));
+    assert!(rt; begins(&found, &[], &UNTOUCHED));
     assert!(rt; cache.holds(&[3, 2, 8, 6, 0]) && index.is_noise_from(32));
     Ok(())
 }
@@ -121,7 +101,7 @@ fn few_places_for_replies(rt: HostRuntime) -> Result<(), Fail> {
     let mut index = Row::new(heap, &[], 32)?;
     let mut found = [UNTOUCHED; 4];
     assert!(rt; play(&mut cache, &mut index, &TEN, &mut found) == Ok(8));
-    assert!(rt; told(&found, &[Filled, Filled, Filled, Hit]));
+    assert!(rt; begins(&found, &[Filled, Filled, Filled, Hit], &UNTOUCHED));
     assert!(rt; cache.holds(&[3, 3, 1, 3, 5]));
     let mut cache = Row::new(heap, &[3, 0], 5)?;
     assert!(rt; play(&mut cache, &mut index, &TEN, &mut []) == Ok(8));
@@ -136,22 +116,19 @@ fn one_request_too_large(rt: HostRuntime) -> Result<(), Fail> {
     let mut cache = Row::new(heap, &[3, 1, 8], 5)?;
     let mut index = Row::new(heap, &[], 32)?;
     let mut found = [UNTOUCHED; 4];
-    let trace = [1, 2, 0x1_0000_0001, 0x1_0000_0000];
-    let refused = Err(Refusal::BadRequest(0x1_0000_0001));
+    let trace = [1, 2, PAGE_LIMIT + 1, PAGE_LIMIT];
+    let refused = Err(Refusal::BadRequest(PAGE_LIMIT + 1));
     assert!(rt; play(&mut cache, &mut index, &trace, &mut found) == refused);
-    assert!(rt; told(&found, &[]) && cache.holds(&[3, 1, 8]) && index.holds(&[]));
+    assert!(rt; begins(&found, &[], &UNTOUCHED) && cache.holds(&[3, 1, 8]) && index.holds(&[]));
     Ok(())
 }
 
 // Whether the requests, one by one, find this. The index is made worthless between them.
 fn agree(cache: &mut [u64], index: &mut [u64], trace: &[u64], found: &[Outcome]) -> bool {
-    for (&page, &outcome) in trace.iter().zip(found) {
+    trace.iter().zip(found).all(|(&page, &outcome)| {
         lay(index, &[]);
-        if lru_cache::serve(cache, index, page) != Ok(outcome) {
-            return false;
-        }
-    }
-    true
+        lru_cache::serve(cache, index, page) == Ok(outcome)
+    })
 }
 
 // Whether a day goes the same way whole, in two parts and request by request.
@@ -168,9 +145,10 @@ fn goes_one_way(k: u64, seed: u64, bound: u64) -> Result<bool, Refusal> {
     let mut first = [UNTOUCHED; 217];
     let mut second = [UNTOUCHED; 383];
     lay(&mut parts, &[k, 0]);
-    let some = lru_cache::play(&mut parts, &mut index, &trace[0..217], &mut first)?;
+    let (one, other) = trace.split_at(217);
+    let some = lru_cache::play(&mut parts, &mut index, one, &mut first)?;
     lay(&mut index, &[]);
-    let rest = lru_cache::play(&mut parts, &mut index, &trace[217..600], &mut second)?;
+    let rest = lru_cache::play(&mut parts, &mut index, other, &mut second)?;
     let mut each = [0u64; 600];
     lay(&mut each, &[k, 0]);
     Ok(
@@ -192,7 +170,7 @@ fn in_two_parts_and_one_by_one(rt: HostRuntime) {
         (5, 2, 12),
         (64, 3, 128),
         (65, 4, 128),
-        (500, 5, 0xffff_ffff),
+        (500, 5, TOP),
     ] {
         assert_eq!(rt; goes_one_way(k, seed, bound), Ok(true), "{k} places");
     }

@@ -1,4 +1,4 @@
-// Tests of lru_cache that run: each refusal at its edge, with every number of both rows compared afterwards, and days with what must come of them.
+// Tests of lru_cache that run: each refusal at its edge, with every number of both rows compared afterwards, and days worked out.
 #![tactic(auto)]
 
 #[cfg(test)]
@@ -6,6 +6,6 @@ mod cases;
 #[cfg(test)]
 mod days;
 #[cfg(test)]
-mod refusals;
+mod lent;
 #[cfg(test)]
-mod rows;
+mod refusals;

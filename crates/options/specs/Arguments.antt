@@ -3,6 +3,7 @@
 --     dashed word           it begins as an option does
 --     flag option           an option that takes no value
 --     has g o               the option was given
+--     detail g              how much is said: the summary alone where it was asked for
 --     switched o g          an option that takes no value is given
 --     put o n g             the option has the value n
 --     with_value o i word g with the value that the option takes from the word, which is argument i: a number within its limits, a policy, or
@@ -12,13 +13,14 @@
 --     settled g             where two options do not go together, that they do not
 --     read_from p r i ws    the arguments from i on
 --     arguments p ws        all of them
-use Rattle.std.specs.Prelude.{ℕ, ◌+◌, Bool, true, false, cond, ◌&&◌, ◌||◌, List, [], ◌∷◌, length, is_some, Some, None, Ok, Err, codes, Option, Result, ◌==◌, nat_le}
+use Rattle.std.specs.Prelude.{ℕ, ◌+◌, Bool, true, false, cond, ◌&&◌, ◌||◌, List, [], ◌∷◌, length, is_some, Some, None, Ok, Err, Option, Result, ◌==◌, nat_le}
 use Rattle.std.specs.List as list
 use Rattle.std.specs.Option.{option_map, option_and_then}
-use Rattle.std.specs.Str.{bytes_eq}
 use Rattle.text.specs.Texts.{number_from}
+use Rattle.trace.specs.Kinds.{policy_of}
+use Rattle.trace.specs.declared.details.Detail.{Detail}
+use Rattle.trace.specs.declared.details.Detail.TheVariants as details
 use Rattle.trace.specs.declared.kinds.PolicyKind.{PolicyKind}
-use Rattle.trace.specs.declared.kinds.PolicyKind.TheVariants.{Lru, Fifo, LeastRequested}
 use Rattle.options.specs.Names.{options_of, find}
 use Rattle.options.specs.declared.given.Given.{Given}
 use Rattle.options.specs.declared.names.Program.{Program}
@@ -65,11 +67,6 @@ abbrev pub number_within : ℕ → ℕ → List ℕ → Option ℕ
 number_within low high word =
     cond (length word == 0) None (option_and_then (λ n. cond (nat_le low n && nat_le n high) (Some n) None) (number_from 0 word))
 
-abbrev pub policy_of : List ℕ → Option PolicyKind
-policy_of word =
-    cond (bytes_eq (codes "lru") word) (Some Lru)
-    (cond (bytes_eq (codes "fifo") word) (Some Fifo) (cond (bytes_eq (codes "lfu") word) (Some LeastRequested) None))
-
 abbrev pub none_given : Given
 none_given =
     record {
@@ -100,6 +97,9 @@ has g Svg = is_some g.svg
 has g Rival = is_some g.rival
 has g Rounds = is_some g.rounds
 has g Policy = is_some g.policy
+
+abbrev pub detail : Given → Detail
+detail g = cond g.summary details.Summary details.Requests
 
 abbrev pub same : Opt → Opt → Bool
 same o p = place_of o == place_of p

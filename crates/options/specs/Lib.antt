@@ -1,2 +1,3 @@
 pub mod Names
 pub mod Arguments
+pub mod Places

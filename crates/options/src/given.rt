@@ -1,15 +1,16 @@
 // The options that are given, with their values.
-ghost use Rattle.std.specs.Prelude.{◌≡◌};
+ghost use Rattle.std.specs.Prelude.{◌≡◌, cond, Some, None};
 
 use crate::names::Opt;
-use crate::values::{Wrong, dashed, number_within, policy_of};
-use trace::PolicyKind;
+use crate::values::{MOST_PLACES, MOST_ROUNDS, Wrong, dashed, number_within};
+use trace::{Detail, PolicyKind};
 
 #[derive(Clone, Copy, Debug, Default, PartialEq, Eq)]
 pub struct Given {
     // the place of the argument that names what is read: no `&str`, since the clause of `read` says by value what was given
     pub file: Option<usize>,
     pub help: bool,
+    // this, `pack` and `unpack` are flags as they are given, each by its name in the definitions; what they come to together is play's `Task`
     pub text: bool,
     pub places: Option<usize>,
     pub report: Option<usize>,
@@ -35,7 +36,7 @@ const APART: [(Opt, Opt); 6] = [
 
 impl Given {
     ghost use Rattle.std.specs.List.{find};
-    ghost use Rattle.options.specs.Arguments.{has, switched, with_value, both, apart, settled};
+    ghost use Rattle.options.specs.Arguments.{has, detail, flag, switched, with_value, both, apart, settled};
 
     // Whether the option was given.
     pub fn has(&self, option: Opt) -> bool
@@ -57,24 +58,33 @@ impl Given {
         }
     }
 
-    // With an option that takes no value; one that takes a value changes nothing here.
-    pub(crate) fn switched(self, option: Opt) -> Given
-        ensures value { result ≡ switched option self }
+    // How much is said.
+    pub fn detail(&self) -> Detail
+        ensures value { result ≡ detail self.now }
     {
-        match option {
-            Opt::Help => Given { help: true, ..self },
-            Opt::Text => Given { text: true, ..self },
-            Opt::Pack => Given { pack: true, ..self },
-            Opt::Unpack => Given {
-                unpack: true,
-                ..self
-            },
-            Opt::Summary => Given {
-                summary: true,
-                ..self
-            },
-            _ => self,
+        if self.summary {
+            Detail::Summary
+        } else {
+            Detail::Requests
         }
+    }
+
+    // With an option that takes no value; none where it takes one.
+    pub(crate) fn switched(self, option: Opt) -> Option<Given>
+        ensures value { result ≡ cond (flag option) (Some (switched option self)) None }
+    {
+        let mut given = self;
+        match option {
+            // no word names it
+            Opt::File => {}
+            Opt::Help => given.help = true,
+            Opt::Text => given.text = true,
+            Opt::Pack => given.pack = true,
+            Opt::Unpack => given.unpack = true,
+            Opt::Summary => given.summary = true,
+            _ => return None,
+        }
+        Some(given)
     }
 
     // With the value that the option takes from the word, which is argument i.
@@ -83,11 +93,11 @@ impl Given {
     {
         let mut given = self;
         match option {
-            Opt::Places => given.places = Some(number_within(1, 4096, word)?),
-            Opt::Report => given.report = Some(number_within(1, 4096, word)?),
-            Opt::Rival => given.rival = Some(number_within(1, 4096, word)?),
-            Opt::Rounds => given.rounds = Some(number_within(0, 65535, word)?),
-            Opt::Policy => given.policy = Some(policy_of(word)?),
+            Opt::Places => given.places = Some(number_within(1, MOST_PLACES, word)?),
+            Opt::Report => given.report = Some(number_within(1, MOST_PLACES, word)?),
+            Opt::Rival => given.rival = Some(number_within(1, MOST_PLACES, word)?),
+            Opt::Rounds => given.rounds = Some(number_within(0, MOST_ROUNDS, word)?),
+            Opt::Policy => given.policy = Some(word.parse().ok()?),
             Opt::Svg if !dashed(word) => given.svg = Some(i),
             _ => return None,
         }

@@ -5,9 +5,11 @@
 
 mod given;
 mod names;
+mod places;
 mod reading;
 mod values;
 
 pub use given::Given;
 pub use names::{Opt, Program};
-pub use values::Wrong;
+pub use places::word_at;
+pub use values::{MOST_PLACES, MOST_ROUNDS, Wrong};

@@ -1,7 +1,6 @@
 // The names of the programs and of their options.
 ghost use Rattle.std.specs.Prelude.{◌≡◌, Some};
 ghost use Rattle.options.specs.Names.{program_name, name_of, options_of, find};
-ghost use Rattle.options.specs.Arguments.{flag};
 
 use std::fmt;
 
@@ -93,16 +92,6 @@ impl Opt {
             Opt::Rounds => "--rounds",
             Opt::Policy => "--policy",
         }
-    }
-
-    // Whether it takes no value.
-    pub(crate) fn is_flag(self) -> bool
-        ensures value { result ≡ flag self }
-    {
-        !matches!(
-            self,
-            Opt::Places | Opt::Report | Opt::Svg | Opt::Rival | Opt::Rounds | Opt::Policy
-        )
     }
 }
 

@@ -23,13 +23,15 @@ impl Reading {
         ensures value { result ≡ named self i word.now option }
     {
         let given = match option {
-            Some(option) if option.is_flag() => self.given.switched(option),
-            Some(option) => {
-                return Ok(Reading {
-                    awaits: Some(option),
-                    ..self
-                });
-            }
+            Some(option) => match self.given.switched(option) {
+                Some(given) => given,
+                None => {
+                    return Ok(Reading {
+                        awaits: Some(option),
+                        ..self
+                    });
+                }
+            },
             None if dashed(word) => return Err(Wrong::Unknown(i)),
             None if self.given.file.is_some() => return Err(Wrong::SecondFile(i)),
             None => Given {
@@ -77,6 +79,7 @@ impl Given {
         ensures value { result ≡ arguments program (map string_bytes words.now) }
     {
         let mut reading = Reading::default();
+        // `(1..).zip(words)` was tried: it ends at the largest `usize`, and that no word is left there did not close.
         for (i, word) in words.iter().enumerate() {
             reading = reading.step(program, i + 1, word.as_str())?;
         }

@@ -1,9 +1,14 @@
 // What an option takes for its value.
 ghost use Rattle.std.specs.Prelude.{◌≡◌};
-ghost use Rattle.options.specs.Arguments.{dashed, number_within, policy_of};
+ghost use Rattle.options.specs.Arguments.{dashed, number_within};
 
 use crate::names::Opt;
-use trace::PolicyKind;
+
+// The most places that a cache may have: recency's `MAX_CAPACITY`. A number of its own, since no crate below has that one.
+pub const MOST_PLACES: u64 = 4096;
+
+// The most rounds of a challenge, whose settings have two bytes for them.
+pub const MOST_ROUNDS: u64 = 65535;
 
 // What is wrong with the arguments: with the one at a place, or with an option. It takes the program and the argument at fault to tell it, so
 // `wrongs::Message` is what is displayed.
@@ -28,8 +33,8 @@ pub(crate) fn dashed(word: &str) -> bool
     word.as_bytes().starts_with(b"--")
 }
 
-// The number that the word is, where it is one of these. Two numbers and no `low..=high`: the clause would have to say that the range is not used
-// up.
+// The number that the word is, where it is one of these. Two numbers and no `RangeInclusive`: where a loop has used one up, its `exhausted` is true
+// and `contains` leaves out the end, so the clause would ask for one where it is false.
 pub(crate) fn number_within(low: u64, high: u64, word: &str) -> Option<usize>
     ensures value { result ≡ number_within low high word.now }
 {
@@ -38,16 +43,4 @@ pub(crate) fn number_within(low: u64, high: u64, word: &str) -> Option<usize>
     }
     let number = text::number(word.as_bytes())?;
     (low..=high).contains(&number).then_some(number as usize)
-}
-
-// The policy that the word names.
-pub(crate) fn policy_of(word: &str) -> Option<PolicyKind>
-    ensures value { result ≡ policy_of word.now }
-{
-    match word {
-        "lru" => Some(PolicyKind::Lru),
-        "fifo" => Some(PolicyKind::Fifo),
-        "lfu" => Some(PolicyKind::LeastRequested),
-        _ => None,
-    }
 }

@@ -2,22 +2,16 @@
 ghost use Rattle.paging.specs.Failing.{LeastRequestedFails, LastRequestedFails, DirectMappedFails};
 
 // The least requested goes.
-pub fn least_requested_fails_stands() -> u8
+pub fn least_requested_fails_stands()
     ensures { LeastRequestedFails }
-{
-    0
-}
+{}
 
 // The page requested last goes.
-pub fn last_requested_fails_stands() -> u8
+pub fn last_requested_fails_stands()
     ensures { LastRequestedFails }
-{
-    0
-}
+{}
 
 // A page stands at its number modulo k and nowhere else.
-pub fn direct_mapped_fails_stands() -> u8
+pub fn direct_mapped_fails_stands()
     ensures { DirectMappedFails }
-{
-    0
-}
+{}

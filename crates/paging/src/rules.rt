@@ -2,8 +2,6 @@
 ghost use Rattle.paging.specs.Rules.{RulesProper};
 
 // LRU, first come first gone, and the rules that fail keep a cache of k places, with no page twice.
-pub fn rules_proper_stands() -> u8
+pub fn rules_proper_stands()
     ensures { RulesProper }
-{
-    0
-}
+{}

@@ -1,8 +1,7 @@
 -- Where numbers stand, and that it is on the picture. Assumes nothing.
 --     height_fits     no height is above the picture
 --     top_is          the number at the top, as it is worked out
---     number_fits     a number on an axis
-use Rattle.std.proofs.Common.{◌≡◌, ℕ, suc, ◌+◌, ◌-◌, ◌*◌, ◌/◌, ◌%◌, ◌<◌, ◌≤◌, max, mod-lt, mul_comm, mul-le-mul, div-le_self, ⊎_elim, ◌∙◌, arith}
+use Rattle.std.proofs.Common.{◌≡◌, ℕ, suc, ◌+◌, ◌-◌, ◌*◌, ◌/◌, ◌%◌, ◌<◌, ◌≤◌, max, mod-lt, mul_comm, ⊎_elim, ◌∙◌, arith}
 use Rattle.std.proofs.Math.Nat.{div-add-mod, mod_self, mod-eq_of_lt, mul-add-mod_self_left, mul-suc}
 use Rattle.std.proofs.lemmas.Bool.{cases_lt}
 use native.Mathlib.Nat.{div-le_of_le-mul}
@@ -36,8 +35,3 @@ next_is x y some =
 pub top_is : (n s a : ℕ) → 1 ≤ s → s ≡ step n → a ≡ max n 1 → a + (s - a % s) % s ≡ top n
 unfolding top
 top_is n s a low apart some = next_is a s low ∙ rw (apart, some)
-
-pub number_fits : (i s t : ℕ) → i ≤ t / s → t ≤ 5096 → s ≤ 1000 → i * s ≤ 5096000
-number_fits i s t le high few =
-    let most : i ≤ 5096 = omega (arith, div-le_self t s) in
-    mul-le-mul most few

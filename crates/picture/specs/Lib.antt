@@ -1,3 +1,4 @@
 pub mod Scaled
 pub mod Drawn
 pub mod Pictured
+pub mod Undrawn

@@ -7,14 +7,13 @@ use crate::scales::{Scale, step};
 use crate::shapes::Shape;
 use std::fmt;
 
+// Into the text, and no `Display`: each axis would need a type of its own, for one call.
 impl Scale {
     // Adds the numbers of fetches from 0 to the top.
     pub(crate) fn tell_fetches(self, text: &mut String) -> fmt::Result
         ensures lines { is_ok result ≡ true → string_bytes text.new ≡ string_bytes text.old ++ told (fetches_piece self.top self.apart) 0 (self.top / self.apart + 1) }
     {
-        // i counts the numbers on the axis, and is no index.
-        for i in 0..self.top / self.apart + 1 {
-            let n = i * self.apart;
+        for n in (0..=self.top).step_by(self.apart as usize) {
             let y = self.height(n);
             write!(text, "{}", Shape::Fetches { y, n })?;
         }
@@ -27,9 +26,7 @@ impl Scale {
             let s = step ((self.places + 1) / 2) in string_bytes text.new ≡ string_bytes text.old ++ told (places_piece self.places s) 0 (self.places / s) }
     {
         let apart = step(self.places.div_ceil(2));
-        // As above, i is no index.
-        for i in 0..self.places / apart {
-            let c = i * apart + apart;
+        for c in (apart..=self.places).step_by(apart as usize) {
             let x = self.middle(c);
             write!(text, "{}", Shape::Places { x, c })?;
         }

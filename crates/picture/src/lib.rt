@@ -8,5 +8,7 @@ mod marks;
 mod pictures;
 mod scales;
 mod shapes;
+mod undrawable;
 
 pub use pictures::draw;
+pub use undrawable::Undrawable;

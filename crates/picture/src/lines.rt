@@ -6,6 +6,7 @@ use crate::scales::Scale;
 use crate::shapes::Shape;
 use std::fmt;
 
+// Into the text, and no `Display`, as the axes are.
 impl Scale {
     // Adds a line that begins with this shape, and has a step wherever it is not as high with one place more.
     pub(crate) fn tell_line(self, start: Shape, fetches: &[u64], text: &mut String) -> fmt::Result

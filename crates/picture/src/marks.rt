@@ -6,6 +6,7 @@ use crate::pictures::Picture;
 use crate::shapes::{Label, Shape};
 use std::fmt;
 
+// Into the text as the axes are: a `Display` would need a type of its own, a picture with k beside it, for one call.
 impl Picture<'_> {
     // Adds the mark for k places, where the picture has them.
     pub(crate) fn tell_mark(&self, k: usize, text: &mut String) -> fmt::Result

@@ -1,12 +1,14 @@
 // The whole picture.
-ghost use Rattle.std.specs.Prelude.{◌≡◌, true, [], ◌++◌, length, is_ok, IfOk, if◌then◌else◌, string_bytes};
-ghost use Rattle.picture.specs.Pictured.{drawn, picture, drawable};
+ghost use Rattle.std.specs.Prelude.{◌≡◌, true, ◌++◌, length, is_ok, string_bytes};
+ghost use Rattle.picture.specs.Pictured.{drawn};
+ghost use Rattle.picture.specs.Undrawn.{Drawn};
 
 use crate::scales::Scale;
 use crate::shapes::Shape;
+use crate::undrawable::Undrawable;
 use std::fmt;
 
-// The most places that a report has.
+// The most places that a report has. Not `curve::MAX_CAPACITIES`: this crate stands on no other, and would on six for one number.
 const MAX: usize = 4096;
 
 // A report and where it stands.
@@ -43,14 +45,12 @@ impl Picture<'_> {
     }
 }
 
-// Adds the picture of a report's row for m capacities, with a mark at k places, and answers true. Where there is no such row, it adds nothing and
-// answers false.
-pub fn draw(row: &[u64], m: usize, k: usize, text: &mut String) -> Result<bool, fmt::Error>
-    ensures drawn { IfOk result (λ b. b ≡ drawable row.now m) }
-    ensures lines { is_ok result ≡ true → string_bytes text.new ≡ string_bytes text.old ++ (if drawable row.now m then picture row.now m k else []) }
+// Adds the picture of a report's row for m capacities, with a mark at k places. Where there is no such row, it adds nothing.
+pub fn draw(row: &[u64], m: usize, k: usize, text: &mut String) -> Result<(), Undrawable>
+    ensures drawn { Drawn row.now m k result (string_bytes text.old) (string_bytes text.new) }
 {
     if m == 0 || m > MAX || row.len() < 2 * m {
-        return Ok(false);
+        return Err(Undrawable::NoRow);
     }
     let picture = Picture {
         house: &row[..m],
@@ -58,5 +58,5 @@ pub fn draw(row: &[u64], m: usize, k: usize, text: &mut String) -> Result<bool, 
         scale: Scale::new(row[0].min(MAX as u64), m as u64),
     };
     picture.tell(k, text)?;
-    Ok(true)
+    Ok(())
 }

@@ -28,23 +28,35 @@ pub(crate) enum Shape {
     Tail,
 }
 
+const HEAD: &str = "\
+<svg xmlns='http://www.w3.org/2000/svg' viewBox='0 0 800 480' width='100%' font-family='sans-serif' font-size='16'>
+<rect width='800' height='480' fill='#fff'/>
+";
+
+const LEGEND: &str = "\
+<path d='M100 28H160' stroke='#d2691e' stroke-width='6'/><text x='170' y='33'>house</text>
+<path d='M260 28H320' stroke='#102a5c' stroke-width='2.5' stroke-dasharray='9 4'/><text x='330' y='33'>known</text>
+";
+
+const TAIL: &str = "\
+<text x='70' y='62' text-anchor='end'>fetches</text><text x='420' y='470' text-anchor='middle'>places</text>
+<path d='M80 90V420H760' fill='none' stroke='#000'/>
+</svg>
+";
+
 impl fmt::Display for Shape {
     ghost output = { λ s. Some (shape_bytes s) };
 
     fn fmt<W: fmt::Write>(&self, f: &mut fmt::Formatter<W>) -> fmt::Result {
         match self {
-            Shape::Head => write!(
+            Shape::Head => f.write_str(HEAD),
+            Shape::Fetches { y, n } => writeln!(
                 f,
-                "<svg xmlns='http://www.w3.org/2000/svg' viewBox='0 0 800 480' width='100%' font-family='sans-serif' font-size='16'>\n\
-                 <rect width='800' height='480' fill='#fff'/>\n"
+                "<path d='M80 {y}H760' stroke='#ccc'/><text x='70' y='{y}' dy='5' text-anchor='end'>{n}</text>"
             ),
-            Shape::Fetches { y, n } => write!(
+            Shape::Places { x, c } => writeln!(
                 f,
-                "<path d='M80 {y}H760' stroke='#ccc'/><text x='70' y='{y}' dy='5' text-anchor='end'>{n}</text>\n"
-            ),
-            Shape::Places { x, c } => write!(
-                f,
-                "<path d='M{x} 420v6' stroke='#000'/><text x='{x}' y='444' text-anchor='middle'>{c}</text>\n"
+                "<path d='M{x} 420v6' stroke='#000'/><text x='{x}' y='444' text-anchor='middle'>{c}</text>"
             ),
             Shape::House { y } => write!(
                 f,
@@ -55,22 +67,13 @@ impl fmt::Display for Shape {
                 "<path fill='none' stroke='#102a5c' stroke-width='2.5' stroke-dasharray='9 4' d='M80 {y}"
             ),
             Shape::Step { x, y } => write!(f, "H{x}V{y}"),
-            Shape::Across => write!(f, "H760'/>\n"),
-            Shape::Mark { x, above, below } => write!(
+            Shape::Across => writeln!(f, "H760'/>"),
+            Shape::Mark { x, above, below } => writeln!(
                 f,
-                "<path d='M{x} 70V420' stroke='#555' stroke-dasharray='2 3'/><path d='M{x} {above}V{below}' stroke='#000' stroke-width='2'/>\n"
+                "<path d='M{x} 70V420' stroke='#555' stroke-dasharray='2 3'/><path d='M{x} {above}V{below}' stroke='#000' stroke-width='2'/>"
             ),
-            Shape::Legend => write!(
-                f,
-                "<path d='M100 28H160' stroke='#d2691e' stroke-width='6'/><text x='170' y='33'>house</text>\n\
-                 <path d='M260 28H320' stroke='#102a5c' stroke-width='2.5' stroke-dasharray='9 4'/><text x='330' y='33'>known</text>\n"
-            ),
-            Shape::Tail => write!(
-                f,
-                "<text x='70' y='62' text-anchor='end'>fetches</text><text x='420' y='470' text-anchor='middle'>places</text>\n\
-                 <path d='M80 90V420H760' fill='none' stroke='#000'/>\n\
-                 </svg>\n"
-            ),
+            Shape::Legend => f.write_str(LEGEND),
+            Shape::Tail => f.write_str(TAIL),
         }
     }
 }
@@ -103,9 +106,9 @@ impl fmt::Display for Label {
             "dx='-8' text-anchor='end'"
         };
         let gap = house.saturating_sub(known);
-        write!(
+        writeln!(
             f,
-            "<text x='{x}' y='80' {side}>{places}: house {house} known {known}, gap {gap}</text>\n"
+            "<text x='{x}' y='80' {side}>{places}: house {house} known {known}, gap {gap}</text>"
         )
     }
 }

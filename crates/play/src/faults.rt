@@ -1,6 +1,7 @@
 // Why a trace can't be played to its end.
-use closing::Undrawn;
+use closing::Stop;
 use console::Asked;
+use picture::Undrawable;
 use std::alloc::AllocError;
 use std::{fmt, io};
 
@@ -36,16 +37,18 @@ impl From<AllocError> for Fault {
     }
 }
 
-impl From<Undrawn> for Fault {
-    fn from(undrawn: Undrawn) -> Fault {
-        match undrawn {
-            Undrawn::Refused(_) => Fault::NoPicture,
-            Undrawn::Memory => Fault::Memory,
+// Only `closing::draw` answers a `Stop`.
+impl From<Stop> for Fault {
+    fn from(stop: Stop) -> Fault {
+        match stop {
+            Stop::Refused(_) => Fault::NoPicture,
+            Stop::Memory => Fault::Memory,
         }
     }
 }
 
-// A fault, as it is told to whoever asked.
+// A fault, as it is told to whoever asked: in words of this program, as `challenge` has its own. What both share is `console::status`,
+// which prints it.
 #[derive(Drop)]
 pub(crate) struct Told<'a> {
     pub(crate) asked: &'a Asked,
@@ -71,7 +74,7 @@ impl fmt::Display for Told<'_> {
                 let path = picture_of(self.asked).unwrap_or("");
                 write!(f, "play: cannot write {path}: {e}")
             }
-            Fault::NoPicture => write!(f, "play: there is no report to draw"),
+            Fault::NoPicture => write!(f, "play: {}", Undrawable::NoRow),
             Fault::Memory => write!(f, "play: out of memory"),
         }
     }

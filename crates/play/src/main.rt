@@ -5,6 +5,7 @@
 mod faults;
 mod help;
 mod pieces;
+mod sources;
 mod steps;
 mod texts;
 
@@ -13,17 +14,19 @@ use convert::header_with;
 use faults::{Fault, Told, picture_of};
 use help::HELP;
 use options::{Given, Program};
-use pieces::{Pieces, read_head};
+use pieces::Pieces;
+use sources::Source;
 use std::fs;
 use std::io::{Read, Write};
 use std::process::ExitCode;
 use steps::{Packing, Playing, Unpacking};
 use texts::Texts;
-use trace::Header;
+use trace::{Detail, Header};
 
 fn main(rt: HostRuntime) -> ExitCode {
-    let Some(asked) = console::ask(&rt, Program::Play) else {
-        return ExitCode::FAILURE;
+    let asked = match console::ask(&rt, Program::Play) {
+        Ok(asked) => asked,
+        Err(status) => return status,
     };
     let ended = play(&rt, &asked).map_err(|fault| Told {
         asked: &asked,
@@ -32,7 +35,8 @@ fn main(rt: HostRuntime) -> ExitCode {
     console::status(&rt, ended)
 }
 
-// Does what is asked with the input that is named.
+// Does what is asked with the input that is named. The system, what is asked and the input stay three parameters from here on: a struct
+// would be taken apart in each function.
 fn play(rt: &HostRuntime, asked: &Asked) -> Result<(), Fault> {
     if asked.given.help {
         return rt.print(HELP).map_err(Fault::Output);
@@ -71,32 +75,46 @@ impl From<Given> for Task {
 }
 
 fn work<R: Read>(rt: &HostRuntime, asked: &Asked, input: &mut R) -> Result<(), Fault> {
-    let given = asked.given;
     let heap = rt.alloc();
-    let task = Task::from(given);
-    let own = match task {
-        Task::Play | Task::Unpack => Some(read_head(input)?),
-        Task::PlayText | Task::Pack => None,
-    };
-    let header = header_with(given.places, given.report, own);
-    match task {
-        Task::Play => {
-            let mut day = Playing::new(heap, rt.stdout(), header, given.summary);
-            Pieces::new().take_all(input, &mut day)?;
-            close(rt, asked, header, &mut day)
+    match Task::from(asked.given) {
+        Task::Play => play_all(rt, asked, &mut Pieces::new(), input),
+        Task::PlayText => play_all(rt, asked, &mut Texts::new(heap), input),
+        Task::Pack => {
+            let mut texts = Texts::new(heap);
+            let header = header_of(asked, &mut texts, input)?;
+            texts.take_all(input, &mut Packing::begin(rt.stdout(), header)?)
         }
-        Task::PlayText => {
-            let mut day = Playing::new(heap, rt.stdout(), header, given.summary);
-            Texts::new(heap).take_all(input, &mut day)?;
-            close(rt, asked, header, &mut day)
-        }
-        Task::Pack => Texts::new(heap).take_all(input, &mut Packing::begin(rt.stdout(), header)?),
         Task::Unpack => {
+            let mut pieces = Pieces::new();
+            let header = header_of(asked, &mut pieces, input)?;
             let mut lines = Unpacking::begin(heap, rt.stdout(), header)?;
-            Pieces::new().take_all(input, &mut lines)?;
+            pieces.take_all(input, &mut lines)?;
             lines.flush()
         }
     }
+}
+
+// The header that is worked with: what is given, and else what the trace says itself.
+fn header_of<S: Source, R: Read>(
+    asked: &Asked,
+    source: &mut S,
+    input: &mut R,
+) -> Result<Header, Fault> {
+    let own = source.header(input)?;
+    Ok(header_with(asked.given.places, asked.given.report, own))
+}
+
+// Plays all of a trace.
+fn play_all<S: Source, R: Read>(
+    rt: &HostRuntime,
+    asked: &Asked,
+    source: &mut S,
+    input: &mut R,
+) -> Result<(), Fault> {
+    let header = header_of(asked, source, input)?;
+    let mut day = Playing::new(rt.alloc(), rt.stdout(), header, asked.given.detail());
+    source.take_all(input, &mut day)?;
+    close(rt, asked, header, &mut day)
 }
 
 // Says what is to be said of a day when the input has ended.
@@ -106,7 +124,7 @@ fn close<W: Write>(
     header: Header,
     day: &mut Playing<W>,
 ) -> Result<(), Fault> {
-    if asked.given.summary {
+    if day.detail == Detail::Summary {
         day.sum_up(header.capacity)?;
     }
     day.report()?;

@@ -3,8 +3,9 @@ ghost use Rattle.std.specs.Prelude.{◌≡◌, ◌+◌, ◌%◌, ◌<◌, ◌≤
 ghost use Rattle.trace.specs.Requests.{left_over};
 
 use crate::faults::Fault;
+use crate::sources::Source;
 use crate::steps::Step;
-use day::PIECE;
+use day::{PIECE, Piece};
 use std::io::Read;
 use trace::Header;
 
@@ -13,13 +14,6 @@ pub(crate) fn read_some<R: Read>(input: &mut R, buf: &mut [u8]) -> Result<usize,
     ensures bound { IfOk result (λ n. n ≤ length buf.old) }
 {
     console::read_some(input, buf).map_err(Fault::Input)
-}
-
-// The header that the input begins with.
-pub(crate) fn read_head<R: Read>(input: &mut R) -> Result<Header, Fault> {
-    let mut head = [0u8; 4];
-    let n = console::fill(input, &mut head).map_err(Fault::Input)?;
-    trace::read_header(&head[..n]).ok_or(Fault::InHeader(n))
 }
 
 // Moves what the first n bytes leave over after the last whole request to the front, and says how many bytes that is.
@@ -36,6 +30,8 @@ fn keep_rest(buf: &mut [u8], n: usize) -> usize
 // What is read of a trace in bytes, in fixed memory.
 #[derive(Drop)]
 pub(crate) struct Pieces {
+    // no `ArrayVec`, which lends only what it holds, and `Read` fills a slice; no `BufReader`, which does not join what is left of a request with
+    // what comes next
     buf: [u8; PIECE],
     // how many bytes the pieces so far leave over, which stand in front
     held: usize,
@@ -61,35 +57,38 @@ impl Pieces {
     {
         let filled = self.held + n;
         self.served = self.served.saturating_add(filled as u64 / 4);
-        step.take(&self.buf[..filled])?;
+        step.take(Piece {
+            bytes: &self.buf[..filled],
+        })?;
         self.held = keep_rest(&mut self.buf, filled);
         Ok(())
     }
+}
+
+impl Source for Pieces {
+    fn header<R: Read>(&mut self, input: &mut R) -> Result<Option<Header>, Fault> {
+        let mut head = [0u8; 4];
+        let n = console::fill(input, &mut head).map_err(Fault::Input)?;
+        let header = trace::read_header(&head[..n]).ok_or(Fault::InHeader(n))?;
+        Ok(Some(header))
+    }
+
+    fn take_some<R: Read, S: Step>(&mut self, input: &mut R, step: &mut S) -> Result<usize, Fault> {
+        let held = self.held;
+        let n = read_some(input, &mut self.buf[held..])?;
+        if n > 0 {
+            self.take_in(n, step)?;
+        }
+        Ok(n)
+    }
 
     // The input may end only where no request was begun.
-    fn ended(&self) -> Result<(), Fault>
-        ensures whole { is_ok result ≡ true → self.now.held ≡ 0 }
+    fn take_end<S: Step>(&mut self, _step: &mut S) -> Result<(), Fault>
+        ensures whole { is_ok result ≡ true → self.new.held ≡ 0 }
     {
         if self.held > 0 {
             return Err(Fault::InRequest(self.served));
         }
         Ok(())
-    }
-
-    // Takes the requests up to the end of the input. Nothing says that an input ends, so the turns are counted.
-    pub(crate) fn take_all<R: Read, S: Step>(
-        &mut self,
-        input: &mut R,
-        step: &mut S,
-    ) -> Result<(), Fault> {
-        for _ in 0..u64::MAX {
-            let held = self.held;
-            let n = read_some(input, &mut self.buf[held..])?;
-            if n == 0 {
-                break;
-            }
-            self.take_in(n, step)?;
-        }
-        self.ended()
     }
 }

@@ -1,5 +1,5 @@
 // What is done with the requests of a trace, which come in piece by piece.
-ghost use Rattle.std.specs.Prelude.{◌≡◌, ℕ, ◌≤◌, true, [], List, length, is_ok, string_bytes};
+ghost use Rattle.std.specs.Prelude.{◌≡◌, ℕ, true, [], List, is_ok, string_bytes};
 ghost use Rattle.trace.specs.Requests.{requests_in};
 ghost use Rattle.lru_cache.specs.Rows.{capacity, cached};
 ghost use Rattle.closing.specs.Summed.{Summed};
@@ -8,23 +8,34 @@ ghost use Rattle.day.specs.Reports.{report_of};
 ghost use Rattle.day.specs.Days.{kept, Went};
 
 use crate::faults::Fault;
-use day::Day;
+use closing::Requests;
+use day::{Day, Piece};
 use std::alloc::Global;
 use std::io::Write;
-use trace::Header;
+use trace::{Detail, Header};
 
 pub(crate) trait Step {
     // what a piece of so many bytes does
     ghost goes: { Self → List ℕ → Self → Type 0 };
 
-    // Takes the requests that the bytes hold whole.
-    fn take(&mut self, bytes: &[u8]) -> Result<(), Fault>
-        requires short { length bytes.now ≤ 65536 }
-        ensures went { goes self.old bytes.now self.new };
+    // Takes the requests that a piece holds whole.
+    fn take(&mut self, piece: Piece<'_>) -> Result<(), Fault>
+        ensures went { goes self.old piece.entry.bytes.now self.new };
 }
 
 fn written<W: Write>(out: &mut W, bytes: &[u8]) -> Result<(), Fault> {
     out.write_all(bytes).map_err(Fault::Output)
+}
+
+// The requests of a day, as far as it kept them. `Requests` is closing's, and made here: closing stands on no day.
+fn requests_of(day: &Day) -> Requests<'_>
+    ensures kept { result.kept.now ≡ kept day.now }
+    ensures total { result.total ≡ day.now.total }
+{
+    Requests {
+        kept: day.kept(),
+        total: day.total,
+    }
 }
 
 // A day that is played: its requests are served, and a line says what became of each.
@@ -34,17 +45,16 @@ pub(crate) struct Playing<W> {
     day: Day,
     // the lines of a piece, or what was said last
     text: String,
-    // no lines are written
-    quiet: bool,
+    pub(crate) detail: Detail,
 }
 
 impl<W: Write> Playing<W> {
-    pub(crate) fn new(heap: Global, out: W, header: Header, quiet: bool) -> Playing<W> {
+    pub(crate) fn new(heap: Global, out: W, header: Header, detail: Detail) -> Playing<W> {
         Playing {
             out,
             day: Day::new(header),
             text: String::new(heap),
-            quiet,
+            detail,
         }
     }
 
@@ -53,7 +63,7 @@ impl<W: Write> Playing<W> {
         ensures lines { is_ok result ≡ true → Summed (kept self.old.day) self.old.day.total k [] (string_bytes self.new.text) }
     {
         self.text.clear();
-        closing::tell_summary(self.day.kept(), self.day.total, k, &mut self.text)?;
+        closing::tell_summary(requests_of(&self.day), k, &mut self.text)?;
         written(&mut self.out, self.text.as_bytes())
     }
 
@@ -70,7 +80,7 @@ impl<W: Write> Playing<W> {
     pub(crate) fn draw(&mut self, rt: &HostRuntime, path: &str, k: usize) -> Result<(), Fault> {
         let day = &self.day;
         self.text.clear();
-        closing::draw(day.kept(), day.total, day.reported, k, &mut self.text)?;
+        closing::draw(requests_of(day), day.reported, k, &mut self.text)?;
         console::write_whole(rt, path, self.text.as_bytes()).map_err(Fault::Picture)
     }
 }
@@ -78,18 +88,17 @@ impl<W: Write> Playing<W> {
 impl<W: Write> Step for Playing<W> {
     ghost goes = { λ s bytes t. Went s.day (requests_in bytes) t.day };
 
-    // Serves the requests, whose lines the text then holds, and writes these unless it is to be quiet.
-    fn take(&mut self, bytes: &[u8]) -> Result<(), Fault>
-        requires short { length bytes.now ≤ 65536 }
-        ensures went { Went self.old.day (requests_in bytes.now) self.new.day }
-        ensures lines { is_ok result ≡ true → string_bytes self.new.text ≡ lines_for (capacity self.old.day.cache) (cached self.old.day.cache) (requests_in bytes.now) }
+    // Serves the requests, whose lines the text then holds, and writes these where they are asked for.
+    fn take(&mut self, piece: Piece<'_>) -> Result<(), Fault>
+        ensures went { Went self.old.day (requests_in piece.entry.bytes.now) self.new.day }
+        ensures lines { is_ok result ≡ true → string_bytes self.new.text ≡ lines_for (capacity self.old.day.cache) (cached self.old.day.cache) (requests_in piece.entry.bytes.now) }
     {
         self.text.clear();
-        self.day.serve(bytes, &mut self.text)?;
-        if self.quiet {
-            return Ok(());
+        self.day.serve(piece, &mut self.text)?;
+        match self.detail {
+            Detail::Requests => written(&mut self.out, self.text.as_bytes()),
+            Detail::Summary => Ok(()),
         }
-        written(&mut self.out, self.text.as_bytes())
     }
 }
 
@@ -102,7 +111,7 @@ pub(crate) struct Packing<W> {
 impl<W: Write + Drop> Packing<W> {
     // Writes the header first.
     pub(crate) fn begin(mut out: W, header: Header) -> Result<Packing<W>, Fault> {
-        written(&mut out, &convert::pack_header(header))?;
+        written(&mut out, &<[u8; 4]>::from(header))?;
         Ok(Packing { out })
     }
 }
@@ -110,8 +119,8 @@ impl<W: Write + Drop> Packing<W> {
 impl<W: Write> Step for Packing<W> {
     ghost goes = { λ _ _ _. Unit {0} };
 
-    fn take(&mut self, bytes: &[u8]) -> Result<(), Fault> {
-        written(&mut self.out, bytes)
+    fn take(&mut self, piece: Piece<'_>) -> Result<(), Fault> {
+        written(&mut self.out, piece.bytes)
     }
 }
 
@@ -141,8 +150,8 @@ impl<W: Write + Drop> Unpacking<W> {
 impl<W: Write + Drop> Step for Unpacking<W> {
     ghost goes = { λ _ _ _. Unit {0} };
 
-    fn take(&mut self, bytes: &[u8]) -> Result<(), Fault> {
-        convert::unpack_bytes(bytes, &mut self.text)?;
+    fn take(&mut self, piece: Piece<'_>) -> Result<(), Fault> {
+        convert::unpack_bytes(piece.bytes, &mut self.text)?;
         self.flush()
     }
 }

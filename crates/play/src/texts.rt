@@ -1,18 +1,18 @@
 // A trace as text, read piece by piece.
-ghost use Rattle.std.specs.Prelude.{◌≤◌, length};
-
 use crate::faults::Fault;
 use crate::pieces::read_some;
+use crate::sources::Source;
 use crate::steps::Step;
-use day::PIECE;
+use day::{PIECE, Piece};
 use std::alloc::Global;
 use std::io::Read;
 use text::Reader;
+use trace::Header;
 
 // How much of a text is read at once: each byte can end a page, which has four.
-const TEXT: usize = 16384;
+const TEXT: usize = PIECE / 4;
 
-// What is read of a trace as text.
+// What is read of a trace as text, in fixed memory.
 #[derive(Drop)]
 pub(crate) struct Texts {
     heap: Global,
@@ -32,36 +32,37 @@ impl Texts {
 
     // A word that is no page is a fault.
     fn checked(&self) -> Result<(), Fault> {
-        if !self.reader.is_bad() {
-            return Ok(());
+        match self.reader.bad() {
+            Some(word) => Err(Fault::Word(word.to_string(self.heap)?)),
+            None => Ok(()),
         }
-        let mut said = String::new(self.heap);
-        self.reader.tell_bad(&mut said)?;
-        Err(Fault::Word(said))
     }
 
     // Takes the pages that a piece of the text names.
     fn take_in<S: Step>(&mut self, piece: &[u8], step: &mut S) -> Result<(), Fault> {
         let n = convert::pack_text(&mut self.reader, piece, &mut self.buf);
-        step.take(&self.buf[..n])?;
+        step.take(Piece {
+            bytes: &self.buf[..n],
+        })?;
         self.checked()
     }
+}
 
-    // Takes the pages up to the end of the input, which is read as a line break, since the last line may lack it. Nothing says that an input
-    // ends, so the turns are counted.
-    pub(crate) fn take_all<R: Read, S: Step>(
-        &mut self,
-        input: &mut R,
-        step: &mut S,
-    ) -> Result<(), Fault> {
+impl Source for Texts {
+    // A text has none.
+    fn header<R: Read>(&mut self, _input: &mut R) -> Result<Option<Header>, Fault> {
+        Ok(None)
+    }
+
+    fn take_some<R: Read, S: Step>(&mut self, input: &mut R, step: &mut S) -> Result<usize, Fault> {
         let mut piece = [0u8; TEXT];
-        for _ in 0..u64::MAX {
-            let n = read_some(input, &mut piece)?;
-            if n == 0 {
-                return self.take_in(b"\n", step);
-            }
-            self.take_in(&piece[..n], step)?;
-        }
-        Ok(())
+        let n = read_some(input, &mut piece)?;
+        self.take_in(&piece[..n], step)?;
+        Ok(n)
+    }
+
+    // The end of the input is read as a line break, since the last line may lack it.
+    fn take_end<S: Step>(&mut self, step: &mut S) -> Result<(), Fault> {
+        self.take_in(b"\n", step)
     }
 }

@@ -3,41 +3,52 @@
 
 ghost use Rattle.std.specs.Prelude.{◌<◌};
 
-use day::{Day, PIECE};
-use std::{fmt, io};
+use day::{Day, PIECE, Piece};
 
-fn main(rt: HostRuntime) -> io::Result<()> {
+fn main(rt: HostRuntime) -> anyhow::Result<()> {
     worked(&rt)?;
     edges(&rt)?;
     long(&rt)
 }
 
-// Serves a day in two pieces, and adds what is said of it to the text.
-fn tell(bytes: &[u8], text: &mut String) -> fmt::Result {
+// What is said of a day that is served in two pieces. Where the bytes have no header, or more than a piece of requests, nothing is.
+fn said(rt: &HostRuntime, bytes: &[u8]) -> anyhow::Result<Option<String>> {
     let Some(header) = trace::read_header(bytes) else {
-        return Err(fmt::Error);
+        return Ok(None);
     };
-    let mut day = Day::new(header);
     let requests = &bytes[4..];
     if requests.len() > PIECE {
-        return Err(fmt::Error);
+        return Ok(None);
     }
+    let mut text = String::new(rt.alloc());
+    let mut day = Day::new(header);
     let half = requests.len() / 8 * 4;
-    day.serve(&requests[0..half], text)?;
-    day.serve(&requests[half..], text)?;
-    day.report(text)
+    day.serve(
+        Piece {
+            bytes: &requests[..half],
+        },
+        &mut text,
+    )?;
+    day.serve(
+        Piece {
+            bytes: &requests[half..],
+        },
+        &mut text,
+    )?;
+    day.report(&mut text)?;
+    Ok(Some(text))
 }
 
-fn show(rt: &HostRuntime, name: &str, bytes: &[u8]) -> io::Result<()> {
-    let mut text = String::new(rt.alloc());
-    if tell(bytes, &mut text).is_err() {
-        return println!(rt; "{name}: nothing is said");
+fn show(rt: &HostRuntime, name: &str, bytes: &[u8]) -> anyhow::Result<()> {
+    match said(rt, bytes)? {
+        Some(text) => print!(rt; "{name}:\n{text}")?,
+        None => println!(rt; "{name}: nothing is said")?,
     }
-    print!(rt; "{name}:\n{text}")
+    Ok(())
 }
 
 // A day of so many requests, in turn for the pages below a bound. Only how many lines there are, and the last of them.
-fn show_end(rt: &HostRuntime, name: &str, requests: u32, pages: u32) -> io::Result<()>
+fn show_end(rt: &HostRuntime, name: &str, requests: u32, pages: u32) -> anyhow::Result<()>
     requires { 0 < pages }
 {
     let mut bytes = Vec::new(rt.alloc());
@@ -45,22 +56,23 @@ fn show_end(rt: &HostRuntime, name: &str, requests: u32, pages: u32) -> io::Resu
     for i in 1..=requests {
         bytes.extend_from_slice(&(i % pages).to_le_bytes())?;
     }
-    let mut text = String::new(rt.alloc());
-    if tell(bytes.as_slice(), &mut text).is_err() {
-        return println!(rt; "{name}: nothing is said");
-    }
+    let Some(text) = said(rt, &bytes)? else {
+        println!(rt; "{name}: nothing is said")?;
+        return Ok(());
+    };
     let count = text.lines().count();
     let last = text.lines().last().unwrap_or("");
-    println!(rt; "{name}: {count} lines, the last is {last}")
+    println!(rt; "{name}: {count} lines, the last is {last}")?;
+    Ok(())
 }
 
-fn worked(rt: &HostRuntime) -> io::Result<()> {
+fn worked(rt: &HostRuntime) -> anyhow::Result<()> {
     let ten =
         b"\x03\0\x04\0\x01\0\0\0\x02\0\0\0\x03\0\0\0\x01\0\0\0\x04\0\0\0\x01\0\0\0\x02\0\0\0\x05\0\0\0\x03\0\0\0\x01\0\0\0";
     show(rt, "ten requests", ten)
 }
 
-fn edges(rt: &HostRuntime) -> io::Result<()> {
+fn edges(rt: &HostRuntime) -> anyhow::Result<()> {
     show(rt, "no request", &[3, 0, 2, 0])?;
     show(rt, "no capacities", &[2, 0, 0, 0, 7, 0, 0, 0, 7, 0, 0, 0])?;
     show(rt, "4097 capacities", &[2, 0, 1, 16, 7, 0, 0, 0])?;
@@ -71,7 +83,7 @@ fn edges(rt: &HostRuntime) -> io::Result<()> {
     show(rt, "three bytes", &[3, 0, 2])
 }
 
-fn long(rt: &HostRuntime) -> io::Result<()> {
+fn long(rt: &HostRuntime) -> anyhow::Result<()> {
     show_end(rt, "4096 requests for one page", 4096, 1)?;
     show_end(rt, "4096 requests for two pages", 4096, 2)?;
     show_end(rt, "4097 requests", 4097, 3)?;

@@ -5,6 +5,7 @@
 --     Table k row P           every slot with a page that P holds of is found
 --     Noted k row s row'      row' is row with slot s noted in the first empty cell from the home of its page on
 --     Kept k row row'         row' differs from row in nothing but the table
+--     Within row s            slot s and the two beside it in the ring are in the row
 --     Sound k row             the row is one for k pages: its ring and its table agree on the pages, and none stands twice
 use Rattle.std.specs.Prelude.{◌≡◌, ℕ, ◌+◌, ◌*◌, ◌<◌, ◌≤◌, true, List, [], ◌∷◌, map, length, drop, ◌≢◌, slice_index, slice_set}
 use Rattle.paging.specs.Lists.{has, distinct}
@@ -48,6 +49,12 @@ pub record Kept (k : ℕ) (row row' : List ℕ) : Type 0 where
   pub same : (i : ℕ) → (i ≢ 1) → i < 5 + 3 * k → slice_index row' i ≡ slice_index row i
   pub len : length row' ≡ length row
   pub beyond : drop (9 * k + 5) row' ≡ drop (9 * k + 5) row
+
+-- a slot and the two beside it in the ring are in the row
+pub record Within (row : List ℕ) (s : ℕ) : Type 0 where
+  pub slot : 4 + 3 * s < length row
+  pub next : 4 + 3 * next row s < length row
+  pub prev : 4 + 3 * prev row s < length row
 
 -- the lengths and counts that every access to the row rests on
 pub record Sized (k : ℕ) (row : List ℕ) : Type 0 where

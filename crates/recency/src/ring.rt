@@ -1,12 +1,11 @@
 // The ring of slots in the order of use. Slot 0 stands at both its ends, so that no slot is a special case.
 ghost use Rattle.std.specs.Prelude.{◌≡◌, ◌+◌, ◌*◌, ◌<◌, ◌≤◌, length};
-ghost use Rattle.recency.specs.Row.{next, prev, unlinked, pushed};
+ghost use Rattle.recency.specs.Row.{next, unlinked, pushed};
+ghost use Rattle.recency.specs.Sound.{Within};
 
 // Takes a slot out: its neighbours are linked to each other.
 pub(crate) fn unlink(row: &mut [u64], slot: usize)
-    requires slot_within { 4 + 3 * slot < length row.old }
-    requires next_within { 4 + 3 * next row.old slot < length row.old }
-    requires prev_within { 4 + 3 * prev row.old slot < length row.old }
+    requires linked { Within row.old slot }
     ensures after { row.new ≡ unlinked row.old slot }
 {
     let after = row[2 + 3 * slot];

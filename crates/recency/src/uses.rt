@@ -3,10 +3,10 @@ ghost use Rattle.std.specs.Prelude.{◌≡◌, ◌+◌, ◌-◌, ◌*◌, ◌<�
 ghost use Rattle.paging.specs.Lists.{has, without, last_of};
 ghost use Rattle.paging.specs.Lru.{lru};
 ghost use Rattle.recency.specs.Row.{pages, count, held, next, prev, unlinked, pushed, admitted};
-ghost use Rattle.recency.specs.Sound.{Sound, Sized, Finds, Kept, Table, Emptied};
+ghost use Rattle.recency.specs.Sound.{Sound, Within, Sized, Finds, Kept, Table, Emptied};
 ghost use Rattle.recency.specs.Outcome.{outcome, fits};
 
-use crate::layout::row_len;
+use crate::layout::Capacity;
 use crate::ring::{push, unlink};
 use crate::table::{note, probe, wipe};
 
@@ -27,9 +27,9 @@ pub fn clear(row: &mut [u64], k: usize) -> bool
     ensures value { result ≡ fits k (length row.old) }
     ensures after { MatchBool result (Emptied k row.old row.new) (row.new ≡ row.old) }
 {
-    match row_len(k) {
-        Some(len) if len <= row.len() => {
-            reset(row, k);
+    match Capacity::new(k) {
+        Some(capacity) if capacity.row_len() <= row.len() => {
+            reset(row, capacity);
             true
         }
         _ => false,
@@ -37,11 +37,9 @@ pub fn clear(row: &mut [u64], k: usize) -> bool
 }
 
 // A ring of slot 0 alone, and an empty table.
-fn reset(row: &mut [u64], k: usize)
-    requires low { 1 ≤ k }
-    requires high { k ≤ 4096 }
-    requires long { 9 * k + 5 ≤ length row.old }
-    ensures after { Emptied k row.old row.new }
+fn reset(row: &mut [u64], k: Capacity)
+    requires long { 9 * k.places + 5 ≤ length row.old }
+    ensures after { Emptied k.places row.old row.new }
 {
     row[0] = 0;
     row[2] = 0;
@@ -54,7 +52,7 @@ pub fn contains(row: &[u64], k: usize, page: u64) -> bool
     requires sound { Sound k row.now }
     ensures value { result ≡ has (pages row.now) page }
 {
-    probe(row, k, page).is_some()
+    probe(row, Capacity { places: k }, page).is_some()
 }
 
 // Requests a page, which is the one used last from then on. One that is not there comes in, where there is no place for the
@@ -66,7 +64,8 @@ pub fn request(row: &mut [u64], k: usize, page: u64) -> Outcome
     ensures sound { Sound k row.new }
     ensures beyond { drop (9 * k + 5) row.new ≡ drop (9 * k + 5) row.old }
 {
-    if let Some(slot) = probe(row, k, page) {
+    let capacity = Capacity { places: k };
+    if let Some(slot) = probe(row, capacity, page) {
         touch(row, slot);
         return Outcome::Hit;
     }
@@ -74,14 +73,12 @@ pub fn request(row: &mut [u64], k: usize, page: u64) -> Outcome
         fill(row, k, page);
         return Outcome::Filled;
     }
-    Outcome::Evicted(evict(row, k, page))
+    Outcome::Evicted(evict(row, capacity, page))
 }
 
 // Makes the page in a slot the one used last.
 fn touch(row: &mut [u64], slot: usize)
-    requires slot_within { 4 + 3 * slot < length row.old }
-    requires next_within { 4 + 3 * next row.old slot < length row.old }
-    requires prev_within { 4 + 3 * prev row.old slot < length row.old }
+    requires linked { Within row.old slot }
     requires head_within { 4 + 3 * next (unlinked row.old slot) 0 < length row.old }
     ensures after { row.new ≡ pushed (unlinked row.old slot) slot }
 {
@@ -90,6 +87,7 @@ fn touch(row: &mut [u64], slot: usize)
 }
 
 // Puts a page in front that is not there, where a place is free: what a request would do, with no search.
+#[tactic(auto, using(crate::proofs::Misses::ready_head))]
 pub fn fill(row: &mut [u64], k: usize, page: u64)
     requires sound { Sound k row.old }
     requires room { count row.old < k }
@@ -100,19 +98,19 @@ pub fn fill(row: &mut [u64], k: usize, page: u64)
 {
     let slot = row[0] + 1;
     row[0] = slot;
-    admit(row, k, slot as usize, page);
+    admit(row, Capacity { places: k }, slot as usize, page);
 }
 
 // A page that is not there comes for the one used longest ago, which is told.
-fn evict(row: &mut [u64], k: usize, page: u64) -> u64
-    requires sound { Sound k row.old }
-    requires full { count row.old ≡ k }
-    requires last_within { 4 + 3 * prev row.old 0 < length row.old }
+#[tactic(auto, using(crate::proofs::Misses::last_low, crate::proofs::Misses::last_high, crate::proofs::Misses::oldest_page, crate::proofs::Misses::freed_count, crate::proofs::Misses::freed_sized))]
+fn evict(row: &mut [u64], k: Capacity, page: u64) -> u64
+    requires sound { Sound k.places row.old }
+    requires full { count row.old ≡ k.places }
     requires absent { has (pages row.old) page ≡ false }
     ensures value { result ≡ last_of (pages row.old) }
-    ensures after { pages row.new ≡ lru k (pages row.old) page }
-    ensures sound { Sound k row.new }
-    ensures beyond { drop (9 * k + 5) row.new ≡ drop (9 * k + 5) row.old }
+    ensures after { pages row.new ≡ lru k.places (pages row.old) page }
+    ensures sound { Sound k.places row.new }
+    ensures beyond { drop (9 * k.places + 5) row.new ≡ drop (9 * k.places + 5) row.old }
 {
     let slot = row[3] as usize;
     let gone = row[4 + 3 * slot];
@@ -122,15 +120,15 @@ fn evict(row: &mut [u64], k: usize, page: u64) -> u64
 }
 
 // Puts a page into a slot that is not in the ring, and the slot in front.
-fn admit(row: &mut [u64], k: usize, slot: usize, page: u64)
-    requires sized { Sized k row.old }
+fn admit(row: &mut [u64], k: Capacity, slot: usize, page: u64)
+    requires sized { Sized k.places row.old }
     requires low { 1 ≤ slot }
     requires high { slot ≤ count row.old }
-    requires head { next row.old 0 ≤ k }
-    requires table { Table k row.old (λ s. s ≢ slot) }
-    ensures kept { Kept k (admitted row.old slot page) row.new }
-    ensures sized { Sized k row.new }
-    ensures table { Finds k row.new }
+    requires head { next row.old 0 ≤ k.places }
+    requires table { Table k.places row.old (λ s. s ≢ slot) }
+    ensures kept { Kept k.places (admitted row.old slot page) row.new }
+    ensures sized { Sized k.places row.new }
+    ensures table { Finds k.places row.new }
 {
     row[4 + 3 * slot] = page;
     push(row, slot);
@@ -146,6 +144,7 @@ pub fn list(row: &[u64], k: usize, out: &mut [u64]) -> usize
     let count = row[0] as usize;
     let mut slot = row[2] as usize;
     let n = count.min(out.len());
+    // The slot is stepped beside the places, since links are followed: no slice has the slots in this order.
     for place in &mut out[..n] {
         *place = row[4 + 3 * slot];
         slot = row[2 + 3 * slot] as usize;

@@ -1,15 +1,6 @@
 // The plain way to keep pages in the order of use: a list, where every page before the one requested moves by a place.
-ghost use Rattle.std.specs.Prelude.{◌<◌, length, IfSome};
-
 use recency::Outcome;
 use std::alloc::{AllocError, Global};
-
-// Where a page stands.
-fn place(pages: &[u64], page: u64) -> Option<usize>
-    ensures { IfSome result (λ at. at < length pages.now) }
-{
-    pages.iter().position(|&p| p == page)
-}
 
 // Requests the trace from an empty list of k places on: what each request found, and the pages at the end.
 pub fn plain_day(
@@ -20,7 +11,7 @@ pub fn plain_day(
     let mut found = Vec::new(heap);
     let mut pages = Vec::new(heap);
     for &page in trace {
-        let outcome = if let Some(at) = place(&pages, page) {
+        let outcome = if let Some(at) = pages.iter().position(|&p| p == page) {
             pages.remove(at);
             Outcome::Hit
         } else if pages.len() < k {

@@ -1,7 +1,6 @@
 // A day from a text, one page number a line, played by LRU and by the least requested side by side, and its summary.
 #![tactic(auto)]
 
-use anyhow::Context;
 use least_requested::LeastRequested;
 use policies::{Lru, WithCapacity};
 use std::io::Read;
@@ -24,9 +23,7 @@ fn main(rt: HostRuntime) -> anyhow::Result<()> {
 
 // How many of the requests a policy fetches.
 fn play<P: WithCapacity + Drop>(rt: &HostRuntime, name: &str, trace: &[u64]) -> anyhow::Result<()> {
-    let mut keeper = P::with_capacity(rt.alloc(), PLACES)?.context(
-        "there is no policy with so many places",
-    )?;
+    let mut keeper = P::with_capacity(rt.alloc(), PLACES)?;
     let mut fetched = 0u64;
     for page in trace {
         if !keeper.shown().contains(page) {

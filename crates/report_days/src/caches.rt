@@ -1,34 +1,22 @@
 // The caches that Belady's rule keeps, one line for each request.
-ghost use Rattle.std.specs.Prelude.{◌≤◌};
-
 use belady::{Foresight, next_uses};
+use lru_cache::Capacity;
 use std::io;
+use traces::Pages;
 
-// The caches of h places.
-pub fn show_caches(rt: &HostRuntime, trace: &[u64], h: usize) -> io::Result<()>
-    requires low { 1 ≤ h }
-    requires high { h ≤ 4096 }
-{
+// The caches of so many places.
+pub fn show_caches(rt: &HostRuntime, trace: &[u64], capacity: Capacity) -> io::Result<()> {
     let mut next = vec![in rt.alloc(); 0; trace.len()]?;
     next_uses(trace, &mut next);
-    println!(rt; "with {h} places:")?;
-    let mut cache = Foresight::new(h);
+    println!(rt; "with {} places:", capacity.places)?;
+    let mut cache = Foresight::new(capacity);
     for (i, page) in trace.iter().enumerate() {
-        let before = if cache.request(trace, &next, i) {
+        let found = if cache.request(trace, &next, i) {
             "fetched"
         } else {
             "here"
         };
-        print!(rt; "{page}: {before}, then")?;
-        tell_pages(rt, cache.cache())?;
+        println!(rt; "{page}: {found}, then{}", Pages(cache.cache()))?;
     }
     Ok(())
-}
-
-// As a loop inside the other one it would have to repeat the invariant of that.
-fn tell_pages(rt: &HostRuntime, pages: &[u64]) -> io::Result<()> {
-    for page in pages {
-        print!(rt; " {page}")?;
-    }
-    rt.println("")
 }

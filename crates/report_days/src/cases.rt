@@ -1,7 +1,7 @@
 // Cases of this program.
-use traces::{Case, Requests};
+use traces::{Case, LARGEST_PAGE, Requests};
 
-// Short traces, and a row with more room.
+// Short traces, and a row with more room. Those of curve_days have other capacities, rooms and requests, which its stdout shows.
 pub const EDGES: [Case; 4] = [
     Case {
         name: "no request",
@@ -15,12 +15,7 @@ pub const EDGES: [Case; 4] = [
         m: 2,
         room: 4,
     },
-    Case {
-        name: "the largest page",
-        requests: Requests::Listed(&[0xffff_ffff, 0, 0xffff_ffff]),
-        m: 1,
-        room: 2,
-    },
+    LARGEST_PAGE,
     Case {
         name: "a longer row",
         requests: Requests::Listed(&[5, 6, 5, 7, 6]),
@@ -28,10 +23,3 @@ pub const EDGES: [Case; 4] = [
         room: 9,
     },
 ];
-
-pub const BAD_TWICE: [Case; 1] = [Case {
-    name: "4097 requests, no capacity",
-    requests: Requests::Listed(&[9; 4097]),
-    m: 0,
-    room: 0,
-}];

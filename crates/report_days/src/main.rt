@@ -6,10 +6,13 @@ mod cases;
 mod shows;
 
 use caches::show_caches;
-use cases::{BAD_TWICE, EDGES};
+use cases::EDGES;
+use lru_cache::Capacity;
 use shows::{compare, show};
 use std::io;
-use traces::{BAD_CAPACITIES, BAD_TRACES, Day, Kind, LARGEST, ROUNDS, TEN, WORKED};
+use traces::{
+    BAD_CAPACITIES, BAD_TRACES, BAD_TWICE, Day, Kind, LARGEST, ROUNDS, TEN, WORKED, short_days,
+};
 
 fn main(rt: HostRuntime) -> io::Result<()> {
     worked(&rt)?;
@@ -24,16 +27,14 @@ fn main(rt: HostRuntime) -> io::Result<()> {
 fn worked(rt: &HostRuntime) -> io::Result<()> {
     let [ten, rounds] = &WORKED;
     show(rt, ten)?;
-    show_caches(rt, &TEN, 3)?;
+    show_caches(rt, &TEN, Capacity { places: 3 })?;
     show(rt, rounds)?;
-    show_caches(rt, &ROUNDS, 2)
+    show_caches(rt, &ROUNDS, Capacity { places: 2 })
 }
 
 fn random(rt: &HostRuntime) -> io::Result<()> {
-    for number in 0..12 {
-        for kind in [Kind::AnyPage, Kind::NearTheLast, Kind::InTurn] {
-            compare(rt, Day::short(number, kind), 120)?;
-        }
+    for day in short_days() {
+        compare(rt, day, 120)?;
     }
     let day = Day {
         requests: 1024,

@@ -1,13 +1,12 @@
 // One day: what the report and LRU say of it, beside every schedule.
-ghost use Rattle.std.specs.Prelude.{◌≤◌};
-
 use crate::distances::count;
 use crate::schedules::search;
 use crate::tallies::{Close, Tally};
 use anyhow::Context;
 use belady::report;
-use lru_cache::{Refusal, play};
+use lru_cache::{Capacity, fetches};
 use std::fmt;
+use traces::Pages;
 
 // The largest capacity of LRU, and of the report.
 const LARGEST: usize = 6;
@@ -15,8 +14,8 @@ const LARGEST: usize = 6;
 // What is said of a day where LRU has k places and anybody else h.
 #[derive(Clone, Copy)]
 struct Sayings {
-    h: u64,
-    k: u64,
+    h: usize,
+    k: usize,
     // the report's numbers: LRU with k places, and the fewest with h
     house: u64,
     known: u64,
@@ -28,11 +27,12 @@ struct Sayings {
 }
 
 impl Sayings {
+    // These products are of small numbers: they saturate nowhere, so that nothing has to be proved of them.
     fn close(self) -> Close {
         let places = self.k.saturating_add(1).saturating_sub(self.h);
         Close {
-            part: self.played.saturating_mul(places),
-            whole: self.fewest.saturating_mul(self.k),
+            part: self.played.saturating_mul(places as u64),
+            whole: self.fewest.saturating_mul(self.k as u64),
             k: self.k,
         }
     }
@@ -65,40 +65,35 @@ impl fmt::Display for Sayings {
     }
 }
 
-// What LRU with k places fetches of a trace.
-fn fetched(trace: &[u64], k: usize) -> Result<u64, Refusal> {
-    let mut cache = [0; 2 + LARGEST];
-    let mut index = [0; 9 * LARGEST + 5];
-    cache[0] = k as u64;
-    play(&mut cache, &mut index, trace, &mut [])
-}
-
 // The report and LRU with every capacity from h to the largest, beside every schedule with h places.
-pub fn compare(rt: &HostRuntime, trace: &[u64], h: usize, tally: &mut Tally) -> anyhow::Result<()>
-    requires low { 1 ≤ h }
-    requires high { h ≤ 6 }
-{
-    let found = search(trace, h as u32);
+pub fn compare(
+    rt: &HostRuntime,
+    trace: &[u64],
+    capacity: Capacity,
+    tally: &mut Tally,
+) -> anyhow::Result<()> {
+    let h = capacity.places;
+    let found = search(trace, h);
     tally.add_day(found.schedules);
     let fewest = found.fewest.context("no schedule serves a day")?;
     let mut row = [0; 2 * LARGEST];
     report(trace, LARGEST, &mut row)?;
-    for k in h..=LARGEST {
+    let (house, known) = row.split_at(LARGEST);
+    let known = *known
+        .get(h - 1)
+        .context("more places than a report is made for")?;
+    for (k, &house) in (1..=LARGEST).zip(house).skip(h - 1) {
         let sayings = Sayings {
-            h: h as u64,
-            k: k as u64,
-            house: row[k - 1],
-            known: row[LARGEST + h - 1],
-            played: fetched(trace, k)?,
-            counted: count(trace, k as u32),
+            h,
+            k,
+            house,
+            known,
+            played: fetches(trace, k)?,
+            counted: count(trace, k),
             fewest,
         };
         if !sayings.right() {
-            print!(rt; "{sayings}; the requests:")?;
-            for page in trace {
-                print!(rt; " {page}")?;
-            }
-            rt.println("")?;
+            println!(rt; "{sayings}; the requests:{}", Pages(trace))?;
         }
         tally.add_comparison(sayings.right(), sayings.close());
     }

@@ -3,7 +3,7 @@ use std::fmt;
 use traces::Random;
 
 #[derive(Clone, Copy)]
-pub enum Kind {
+pub enum Habit {
     // Any of five pages.
     AnyPage,
     // The lower a page, the more often.
@@ -16,14 +16,14 @@ pub enum Kind {
     TwoScans,
 }
 
-impl fmt::Display for Kind {
+impl fmt::Display for Habit {
     fn fmt<W: fmt::Write>(&self, f: &mut fmt::Formatter<W>) -> fmt::Result {
         f.write_str(match self {
-            Kind::AnyPage => "any page",
-            Kind::Skewed => "skewed",
-            Kind::Loop => "loop",
-            Kind::Phases => "phases",
-            Kind::TwoScans => "two scans",
+            Habit::AnyPage => "any page",
+            Habit::Skewed => "skewed",
+            Habit::Loop => "loop",
+            Habit::Phases => "phases",
+            Habit::TwoScans => "two scans",
         })
     }
 }
@@ -43,22 +43,25 @@ fn in_scans(n: u64) -> u64 {
     place.min(10 - place)
 }
 
-// Makes a day of a kind, another one for each number.
-pub fn fill(trace: &mut [u64], kind: Kind, day: u64) {
-    let mut numbers = Random::new(day);
-    // a day begins at the second number
-    let _ = numbers.draw();
-    let mut scanned = day % 6;
-    for (n, page) in (0..).zip(trace.iter_mut()) {
-        let random = numbers.draw();
-        scanned = scanned.wrapping_add(u64::from(random % 4 != 0));
-        // one match here: closures would each take n, the day, the number and the place in the scan
-        *page = match kind {
-            Kind::AnyPage => random % 5,
-            Kind::Skewed => (random % 6).min(random / 6 % 6),
-            Kind::Loop => in_loop(n, day, random),
-            Kind::Phases => n / 3 % 4 + random % 3,
-            Kind::TwoScans => in_scans(scanned),
-        };
+impl Habit {
+    // Makes a day, another one for each number.
+    pub fn fill(self, trace: &mut [u64], day: u64) {
+        let mut numbers = Random::new(day);
+        // a day begins at the second number
+        numbers.draw();
+        let mut scanned = day % 6;
+        for (n, page) in (0..).zip(trace.iter_mut()) {
+            let random = numbers.draw();
+            // it never wraps, with one step for each of a few requests; `+=` asks for an invariant that says so
+            scanned = scanned.wrapping_add(u64::from(random % 4 != 0));
+            // one match here: closures would each take n, the day, the number and the place in the scan
+            *page = match self {
+                Habit::AnyPage => random % 5,
+                Habit::Skewed => (random % 6).min(random / 6 % 6),
+                Habit::Loop => in_loop(n, day, random),
+                Habit::Phases => n / 3 % 4 + random % 3,
+                Habit::TwoScans => in_scans(scanned),
+            };
+        }
     }
 }

@@ -8,61 +8,55 @@ mod generator;
 mod schedules;
 mod tallies;
 
-ghost use Rattle.std.specs.Prelude.{◌≤◌};
-
 use anyhow::bail;
 use compares::compare;
-use generator::{Kind, fill};
+use generator::Habit;
+use lru_cache::Capacity;
 use std::io;
 use tallies::{Close, Tally};
 
 // How many days of each kind.
 const DAYS: u64 = 100;
 
-const KINDS: [Kind; 5] = [
-    Kind::AnyPage,
-    Kind::Skewed,
-    Kind::Loop,
-    Kind::Phases,
-    Kind::TwoScans,
+const HABITS: [Habit; 5] = [
+    Habit::AnyPage,
+    Habit::Skewed,
+    Habit::Loop,
+    Habit::Phases,
+    Habit::TwoScans,
 ];
 
 // Every kind of day, beside every number of places.
 fn main(rt: HostRuntime) -> anyhow::Result<()> {
     let mut total = Tally::default();
-    for kind in KINDS {
+    for habit in HABITS {
         for h in 1..=3 {
-            let tally = days(&rt, kind, h)?;
-            tell(&rt, kind, h, tally)?;
+            let tally = days(&rt, habit, Capacity { places: h })?;
+            tell(&rt, habit, h, tally)?;
             total.add_all(tally);
         }
     }
     end(&rt, total)
 }
 
-// All days of a kind beside h places.
-fn days(rt: &HostRuntime, kind: Kind, h: usize) -> anyhow::Result<Tally>
-    requires low { 1 ≤ h }
-    requires high { h ≤ 6 }
-{
+// All days of a kind beside so many places.
+fn days(rt: &HostRuntime, habit: Habit, capacity: Capacity) -> anyhow::Result<Tally> {
     let mut tally = Tally::default();
     for day in 0..DAYS {
-        let mut buffer = [0; 12];
-        let length = 8 + (day % 5) as usize;
-        let trace = &mut buffer[..length];
-        fill(trace, kind, day);
-        compare(rt, trace, h, &mut tally)?;
+        let mut trace = vec![in rt.alloc(); 0; 8 + (day % 5) as usize]?;
+        habit.fill(&mut trace, day);
+        compare(rt, &trace, capacity, &mut tally)?;
     }
     Ok(tally)
 }
 
-fn tell(rt: &HostRuntime, kind: Kind, h: usize, tally: Tally) -> io::Result<()> {
+fn tell(rt: &HostRuntime, habit: Habit, h: usize, tally: Tally) -> io::Result<()> {
     let Tally {
         days,
         schedules,
         ..
     } = tally;
-    print!(rt; "{kind}, h {h}: {days} days, {schedules} schedules")?;
+    print!(rt; "{habit}, h {h}: {days} days, {schedules} schedules")?;
     if let Some(Close { part, whole, k }) = tally.closest {
         print!(rt; "; LRU closest to its bound with k {k}: {part} of {whole}")?;
     }

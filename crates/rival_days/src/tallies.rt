@@ -1,11 +1,11 @@
-// What was seen on many days.
+// What was seen on many days. Counts are added with `saturating_add`: they stay far below 2^64, so that nothing has to be proved of them.
 
 // How close LRU with k places came to its bound: (k - h + 1) x LRU of k x fewest.
 #[derive(Clone, Copy)]
 pub struct Close {
     pub part: u64,
     pub whole: u64,
-    pub k: u64,
+    pub k: usize,
 }
 
 impl Close {

@@ -1,7 +1,7 @@
-// Rows of numbers that are looked through and shifted.
+// Rows that are looked through, shifted and written.
 #![tactic(auto)]
 
-ghost use Rattle.std.specs.Prelude.{◌≡◌, ◌+◌, ◌<◌, true, false, ◌∷◌, ◌++◌, length, take, drop, MatchOption};
+ghost use Rattle.std.specs.Prelude.{◌≡◌, ◌+◌, ◌<◌, true, false, ◌∷◌, ◌++◌, length, take, drop, MatchOption, slice_set};
 ghost use Rattle.std.specs.List.{remove};
 ghost use Rattle.paging.specs.Lists.{has, place};
 
@@ -13,8 +13,8 @@ pub fn holds(pages: &[u64], page: u64) -> bool
     pages.contains(&page)
 }
 
-// How many stand before the first such page, where it is there. Not copied into its callers: there it has taken 6 instructions for each
-// number that is passed in place of 5.
+// How many stand before the first such page, where it is there. Not copied into its callers: there it has taken 6 instructions in place of
+// 5 for each number that is passed, and a report is held against one in C (docs/PERFORMANCE.md).
 #[inline(never)]
 pub fn find(row: &[u64], page: u64) -> Option<usize>
     ensures value { MatchOption result (has row.now page ≡ false) (λ at. (has row.now page ≡ true) × (at ≡ place page row.now) × (at < length row.now)) }
@@ -30,4 +30,13 @@ pub fn put_first(row: &mut [u64], at: usize, value: u64)
 {
     row[..=at].rotate_right(1);
     row[0] = value;
+}
+
+// Writes a value, where there is a place for it. By number: of what is written through `get_mut` a proof knows the length alone.
+pub fn write_at<T: Copy>(row: &mut [T], i: usize, value: T)
+    ensures after { row.new ≡ slice_set row.old i value }
+{
+    if i < row.len() {
+        row[i] = value;
+    }
 }

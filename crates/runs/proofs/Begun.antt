@@ -3,8 +3,8 @@ use Rattle.std.proofs.Common.{◌≡◌, ℕ, suc, ◌+◌, ◌-◌, ◌*◌, �
 use Rattle.paging.specs.Policies.{Policy}
 use Rattle.paging.specs.Rules.{Proper}
 use Rattle.adversary.specs.declared.challenge.Challenge.{Challenge}
-use Rattle.runs.specs.declared.counts.Counts.{Counts}
-use Rattle.runs.specs.declared.counts.Stopped.{Stopped}
+use Rattle.trace.specs.declared.totals.Totals.{Totals}
+use Rattle.runs.specs.declared.stopped.Stopped.{Stopped}
 use Rattle.adversary.specs.Begins.{Begun}
 use Rattle.runs.specs.Runs.{Against}
 use Rattle.runs.specs.Whole.{Broke}
@@ -26,7 +26,7 @@ module _ (k h : ℕ) (policy : Policy) (row : List ℕ) (c : Challenge) (b : Beg
         subst Q b.h_is (subst P b.k_is x)
 
     pub run_proper :
-        (r : Result Counts Stopped) → IfErr r (λ s. Broke c.k c.h policy m s row' current) → Proper k policy →
+        (r : Result Totals Stopped) → IfErr r (λ s. Broke c.k c.h policy m s row' current) → Proper k policy →
         h + m * (suc k - h) < 2 ^ 32 → is_ok r ≡ true
     run_proper (Ok s) x p few = refl
     run_proper (Err s) x p few =

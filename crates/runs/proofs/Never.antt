@@ -12,7 +12,7 @@ use Rattle.paging.proofs.Played.{plays_exactly}
 use Rattle.paging.proofs.Steps.{plays_add}
 use Rattle.lru_cache.specs.declared.refusals.Refusal.{Refusal}
 use Rattle.lru_cache.specs.declared.refusals.Refusal.TheVariants.{NoPageLeft}
-use Rattle.runs.specs.declared.counts.Stopped.{Stopped}
+use Rattle.runs.specs.declared.stopped.Stopped.{Stopped}
 use Rattle.adversary.specs.Rules.{first_odd, broken}
 use Rattle.runs.specs.Runs.{played, asked_of, before_of, broken_after, stops}
 use Rattle.adversary.specs.Steps.{told, exhausted}

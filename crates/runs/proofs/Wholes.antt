@@ -1,5 +1,5 @@
 -- A whole run: from the rules kept along it to its counts, and why it stops.
-use Rattle.std.proofs.Common.{◌≡◌, ℕ, suc, ◌+◌, ◌-◌, ◌*◌, ◌<◌, ◌≤◌, true, false, ltb, leb, List, [], length, Some, None, Option, sym, ap, ◌∙◌, arith}
+use Rattle.std.proofs.Common.{◌≡◌, ℕ, ◌+◌, ◌*◌, ◌<◌, ◌≤◌, true, false, ltb, leb, List, [], length, Some, None, Option, sym, ap, ◌∙◌, arith}
 use Rattle.std.proofs.lemmas.Bool.{le-leb, lt-ltb, le-ltb}
 use Rattle.paging.specs.Adversary.{adversary}
 use Rattle.paging.specs.Policies.{Policy, history_after}
@@ -7,15 +7,19 @@ use Rattle.paging.specs.Stepwise.{Play, begins}
 use Rattle.paging.proofs.Guards.{kept_counts}
 use Rattle.paging.proofs.Played.{plays_exactly}
 use Rattle.adversary.specs.declared.challenge.Challenge.{Challenge}
-use Rattle.runs.specs.declared.counts.Counts.{Counts}
-use Rattle.runs.specs.declared.counts.Stopped.{Stopped}
+use Rattle.trace.specs.declared.totals.Totals.{Totals}
+use Rattle.runs.specs.declared.stopped.Stopped.{Stopped}
 use Rattle.adversary.specs.Places.{asked_in, shown_in}
 use Rattle.adversary.specs.Rules.{broken}
 use Rattle.adversary.specs.Runs.{Led}
 use Rattle.runs.specs.Runs.{played, broken_after, Against, Halted}
 use Rattle.adversary.specs.Steps.{told, fault_in, if_long}
 use Rattle.runs.specs.Whole.{Ran, Broke}
+use Rattle.telling.specs.Told.{totals_of}
 use Rattle.runs.proofs.Keeping.{kept_now}
+
+pub asked_is : (t : Totals) (k h m : ℕ) → t ≡ totals_of k h m → t.asked ≡ h + m * k
+asked_is t k h m is = ap (λ (u : Totals). u.asked) is
 
 module _ (k h m : ℕ) (policy : Policy) (low : 0 < h) (le : h ≤ k) where
   history_whole : (played k h policy (h + m * k)).history ≡ history_after [] (adversary k h policy m)
@@ -33,13 +37,13 @@ module _ (k h m : ℕ) (policy : Policy) (low : 0 < h) (le : h ≤ k) where
 
     pub whole_ran :
         shown ≡ policy history → broken c.k (asked_in c) (shown_in c row) shown ≡ None → (current : Policy) → Led policy history current →
-        (r : Counts) → r.requests ≡ h + m * k → r.fetches ≡ h + m * k → r.beside ≡ h + m * (suc k - h) → Ran k h policy m r row current
-    whole_ran is none current led r requests fetches beside =
+        (r : Totals) → r ≡ totals_of k h m → Ran k h policy m r row current
+    whole_ran is none current led r totals =
         let all = kept_now k policy history a.keeps_rules (sym (broken_is is) ∙ none) in
         record {
-          requests_is = requests;
-          fetches_is = fetches;
-          beside_is = beside;
+          asked_is = asked_is r k h m totals;
+          keeper_is = ap (λ (t : Totals). t.keeper) totals;
+          rival_is = ap (λ (t : Totals). t.rival) totals;
           counted = kept_counts k h m policy low le (rw history_whole at all);
           led = rw history_whole at led;
           stands = c;

@@ -1,3 +1,4 @@
 pub mod Runs
+pub mod Stopped
 pub mod Whole
 pub mod Schedule

@@ -8,8 +8,8 @@ use Rattle.paging.specs.LowerBound.{Counted}
 use Rattle.paging.specs.Policies.{Policy, history_after}
 use Rattle.lru_cache.specs.declared.refusals.Refusal.{Refusal}
 use Rattle.adversary.specs.declared.challenge.Challenge.{Challenge}
-use Rattle.runs.specs.declared.counts.Counts.{Counts}
-use Rattle.runs.specs.declared.counts.Stopped.{Stopped}
+use Rattle.trace.specs.declared.totals.Totals.{Totals}
+use Rattle.runs.specs.declared.stopped.Stopped.{Stopped}
 use Rattle.adversary.specs.Runs.{Led}
 use Rattle.runs.specs.Runs.{played, broken_after, Against, stops}
 use Rattle.adversary.specs.Steps.{told}
@@ -17,10 +17,10 @@ use Rattle.adversary.specs.Steps.{told}
 abbrev pub halts : ℕ → ℕ → Policy → ℕ → ℕ → Option Refusal
 halts k h policy m n = cond (nat_lt n (h + m * k)) (stops k h policy n) (told (broken_after k policy (played k h policy n).history) None)
 
-pub record Ran (k h : ℕ) (policy : Policy) (m : ℕ) (r : Counts) (row : List ℕ) (current : Policy) : Type 0 where
-  pub requests_is : r.requests ≡ h + m * k
-  pub fetches_is : r.fetches ≡ h + m * k
-  pub beside_is : r.beside ≡ h + m * (suc k - h)
+pub record Ran (k h : ℕ) (policy : Policy) (m : ℕ) (r : Totals) (row : List ℕ) (current : Policy) : Type 0 where
+  pub asked_is : r.asked ≡ h + m * k
+  pub keeper_is : r.keeper ≡ h + m * k
+  pub rival_is : r.rival ≡ h + m * (suc k - h)
   -- these are the adversary's requests, each fetched by the policy, beside a feasible schedule with h places
   pub counted : Counted k h policy m
   -- and they are what the policy was given

@@ -6,9 +6,11 @@ ghost use Rattle.adversary.specs.Runs.{Led};
 ghost use Rattle.runs.specs.Runs.{played, Against, Halted};
 ghost use Rattle.runs.specs.Whole.{Ran, Broke};
 
-use crate::counts::{Counts, Stopped};
+use crate::stopped::Stopped;
 use adversary::{Challenge, ask};
 use policies::Policy;
+use telling::count;
+use trace::Totals;
 
 // Asks for as many pages as are wanted, one after the other, from the beginning on. Policy, challenge and row are named in each clause: of
 // what a struct over what is lent has written, nothing is known once it is let go. The loop counts, since the count is told.
@@ -37,25 +39,19 @@ fn run_on<P: Policy>(
     challenge: Challenge,
     rounds: u32,
     row: &mut [u64],
-) -> Result<Counts, Stopped>
+) -> Result<Totals, Stopped>
     requires begun { Against challenge.k challenge.h (P.policy keeper.old) 0 challenge row.old }
     ensures ran { IfOk result (λ s. Ran challenge.k challenge.h (P.policy keeper.old) rounds s row.new (P.policy keeper.new)) }
     ensures broke { IfErr result (λ s. Broke challenge.k challenge.h (P.policy keeper.old) rounds s row.new (P.policy keeper.new)) }
     ensures beyond { drop (3 * challenge.k + 1) row.new ≡ drop (3 * challenge.k + 1) row.old }
 {
-    let requests = challenge.h as u64 + rounds as u64 * challenge.k as u64;
-    let end = ask_all(keeper, challenge, row, requests)?;
+    let totals = count(challenge.k, challenge.h, rounds as usize);
+    let end = ask_all(keeper, challenge, row, totals.asked)?;
     end.accept(row, keeper.shown()).map_err(|refusal| Stopped {
-        after: requests,
+        after: totals.asked,
         refusal,
     })?;
-    let news = challenge.k + 1 - challenge.h;
-    let beside = challenge.h as u64 + rounds as u64 * news as u64;
-    Ok(Counts {
-        requests,
-        fetches: requests,
-        beside,
-    })
+    Ok(totals)
 }
 
 // Challenges a policy with k places beside a schedule with h: the opening and as many rounds. Nothing is asked of the policy, and the row
@@ -67,7 +63,7 @@ pub fn run<P: Policy>(
     h: usize,
     rounds: u32,
     row: &mut [u64],
-) -> Result<Counts, Stopped>
+) -> Result<Totals, Stopped>
     ensures ran { IfOk result (λ s. Ran k h (P.policy keeper.old) rounds s row.new (P.policy keeper.new)) }
     ensures refused { IfErr result (λ s. MatchOption (unfit k h (length row.old)) (Broke k h (P.policy keeper.old) rounds s row.new (P.policy keeper.new)) (λ e. (s.refusal ≡ e) × (s.after ≡ 0) × (row.new ≡ row.old) × (keeper.new ≡ keeper.old))) }
     ensures beyond { drop (3 * k + 1) row.new ≡ drop (3 * k + 1) row.old }

@@ -1,3 +1,3 @@
 pub mod Fractions
+pub mod Hundreds
 pub mod Reading
-pub mod Telling

@@ -3,15 +3,13 @@
 --     amount_bytes a            `10 requests`, `1 page`, `5 different pages`, `3 places`, `3 times as many`
 --     hundredths_bytes n        n hundredths, with a point before the last two digits
 --     bound_bytes s             `(3 - 1 + 1) x 8 <= 3 x 10`
---     sentence_bytes s          one sentence, without the line break
---     fetched_sentence s        which one tells what LRU fetched
---     line s                    a sentence with its line break
+--     fetched_bytes s           what LRU fetched, and that nobody could have fetched fewer, or how few
+--     nothing_line, counts_line s, fetched_line s, promised_line s, tightest_line s, needed_line s
+--                               the sentences, each with its line break
 --     paragraph s               the sentences of a summary, a line each
-use Rattle.std.specs.Prelude.{ℕ, ◌/◌, ◌%◌, cond, List, [], ◌∷◌, ◌++◌, codes, decimal, ◌==◌}
+use Rattle.std.specs.Prelude.{ℕ, ◌/◌, ◌%◌, cond, List, ◌++◌, codes, decimal, ◌==◌}
 use Rattle.summary.specs.declared.amounts.Amount.{Amount}
 use Rattle.summary.specs.declared.amounts.Amount.TheVariants.{Requests, Pages, Places, Times}
-use Rattle.summary.specs.declared.sentences.Sentence.{Sentence}
-use Rattle.summary.specs.declared.sentences.Sentence.TheVariants.{Nothing, Counts, Fewest, Fetched, Promised, Tightest, Needed}
 use Rattle.summary.specs.declared.summaries.Summary.{Summary}
 
 abbrev pub counted : ℕ → List ℕ → List ℕ → List ℕ
@@ -31,31 +29,35 @@ bound_bytes s =
     codes "(" ++ (decimal s.places ++ (codes " - " ++ (decimal s.tight ++ (codes " + 1) x " ++ (decimal s.house
     ++ (codes " <= " ++ (decimal s.places ++ (codes " x " ++ decimal s.against))))))))
 
-abbrev pub sentence_bytes : Sentence → List ℕ
-sentence_bytes Nothing = codes "There were no requests, and nothing was fetched."
-sentence_bytes (Counts s) = amount_bytes (Requests s.requests) ++ (codes " for " ++ (amount_bytes (Pages s.different) ++ codes "."))
-sentence_bytes (Fewest s) =
-    codes "With " ++ (amount_bytes (Places s.places) ++ (codes " the house fetched " ++ (decimal s.house
-    ++ codes ", and nobody could have fetched fewer.")))
-sentence_bytes (Fetched s) =
-    codes "With " ++ (amount_bytes (Places s.places) ++ (codes " the house fetched " ++ (decimal s.house
-    ++ (codes ", and nobody could have fetched fewer than " ++ (decimal s.known
-    ++ (codes ": at most " ++ (hundredths_bytes s.hundredths ++ codes " times as many.")))))))
-sentence_bytes (Promised s) =
-    codes "Promised: at most " ++ (amount_bytes (Times s.places) ++ (codes " as anybody with " ++ (amount_bytes (Places s.places) ++ codes ".")))
-sentence_bytes (Tightest s) =
+abbrev pub fetched_bytes : Summary → List ℕ
+fetched_bytes s =
+    cond (s.house == s.known) (decimal s.house ++ codes ", and nobody could have fetched fewer.")
+    (decimal s.house ++ (codes ", and nobody could have fetched fewer than " ++ (decimal s.known
+    ++ (codes ": at most " ++ (hundredths_bytes s.hundredths ++ codes " times as many.")))))
+
+abbrev pub nothing_line : List ℕ
+nothing_line = codes "There were no requests, and nothing was fetched.\n"
+
+abbrev pub counts_line : Summary → List ℕ
+counts_line s = amount_bytes (Requests s.requests) ++ (codes " for " ++ (amount_bytes (Pages s.different) ++ codes ".\n"))
+
+abbrev pub fetched_line : Summary → List ℕ
+fetched_line s = codes "With " ++ (amount_bytes (Places s.places) ++ (codes " the house fetched " ++ (fetched_bytes s ++ codes "\n")))
+
+abbrev pub promised_line : Summary → List ℕ
+promised_line s =
+    codes "Promised: at most " ++ (amount_bytes (Times s.places) ++ (codes " as anybody with " ++ (amount_bytes (Places s.places) ++ codes ".\n")))
+
+abbrev pub tightest_line : Summary → List ℕ
+tightest_line s =
     codes "Tightest for this day against " ++ (amount_bytes (Places s.tight) ++ (codes ": " ++ (bound_bytes s
-    ++ (codes ", so at most " ++ (decimal s.allowed ++ codes ".")))))
-sentence_bytes (Needed s) =
-    codes "To fetch no more than " ++ (decimal s.known ++ (codes " the house needs " ++ (amount_bytes (Places s.needed) ++ codes ".")))
+    ++ (codes ", so at most " ++ (decimal s.allowed ++ codes ".\n")))))
 
-abbrev pub fetched_sentence : Summary → Sentence
-fetched_sentence s = cond (s.house == s.known) (Fewest s) (Fetched s)
-
-abbrev pub line : Sentence → List ℕ
-line s = sentence_bytes s ++ (10 ∷ [])
+abbrev pub needed_line : Summary → List ℕ
+needed_line s =
+    codes "To fetch no more than " ++ (decimal s.known ++ (codes " the house needs " ++ (amount_bytes (Places s.needed) ++ codes ".\n")))
 
 unfoldable pub paragraph : Summary → List ℕ
 paragraph s =
-    cond (s.requests == 0) (line Nothing)
-    (line (Counts s) ++ (line (fetched_sentence s) ++ (line (Promised s) ++ (line (Tightest s) ++ line (Needed s)))))
+    cond (s.requests == 0) nothing_line
+    (counts_line s ++ (fetched_line s ++ (promised_line s ++ (tightest_line s ++ needed_line s))))

@@ -40,8 +40,7 @@ impl fmt::Display for Hundredths {
     ghost output = { λ h. Some (hundredths_bytes h.0) };
 
     fn fmt<W: fmt::Write>(&self, f: &mut fmt::Formatter<W>) -> fmt::Result {
-        let count = self.0;
-        write!(f, "{}.{}{}", count / 100, count / 10 % 10, count % 10)
+        write!(f, "{}.{:02}", self.0 / 100, self.0 % 100)
     }
 }
 

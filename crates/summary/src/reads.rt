@@ -8,6 +8,7 @@ ghost use Rattle.summary.specs.Reports.{Reports};
 
 use crate::summaries::Summary;
 use curve::MAX_CAPACITIES;
+use lru_cache::Capacity;
 
 // The report of a trace for 1, 2 .. 4,096 places.
 #[derive(Clone, Copy, Debug)]
@@ -35,6 +36,7 @@ fn tightest(known: &[u64]) -> usize
     ensures value { Tightest (λ h. slice_index known.now (h - 1)) (length known.now) result }
 {
     let k = known.len();
+    // A loop: with `enumerate` and `max_by` it was not proved that the products of any two fit, nor which place is answered.
     let mut tight = 1;
     let mut against = known[0];
     for (i, &fewest) in known.iter().enumerate() {
@@ -49,23 +51,19 @@ fn tightest(known: &[u64]) -> usize
 
 impl Report<'_> {
     // What LRU fetches with c places.
-    fn fetched(self, c: usize) -> u64
-        requires low { 1 ≤ c }
-        requires high { c ≤ 4096 }
-        ensures value { result ≡ lru_fetches c [] self.entry.trace.now }
+    fn fetched(self, c: Capacity) -> u64
+        ensures value { result ≡ lru_fetches c.places [] self.entry.trace.now }
         ensures small { result ≤ 4096 }
     {
-        self.house[c - 1]
+        self.house[c.places - 1]
     }
 
     // The fewest that anybody could have fetched with c places.
-    fn fewest(self, c: usize) -> u64
-        requires low { 1 ≤ c }
-        requires high { c ≤ 4096 }
-        ensures value { result ≡ belady_fetches c [] self.entry.trace.now }
+    fn fewest(self, c: Capacity) -> u64
+        ensures value { result ≡ belady_fetches c.places [] self.entry.trace.now }
         ensures small { result ≤ 4096 }
     {
-        self.known[c - 1]
+        self.known[c.places - 1]
     }
 
     // The fewest places with which LRU fetches no more than n.
@@ -79,18 +77,19 @@ impl Report<'_> {
     }
 
     // The summary of the trace with k places.
-    pub(crate) fn read(self, k: usize) -> Summary
-        requires low { 1 ≤ k }
-        requires high { k ≤ 4096 }
-        ensures says { Says self.entry.trace.now k result }
+    pub(crate) fn read(self, capacity: Capacity) -> Summary
+        ensures says { Says self.entry.trace.now capacity.places result }
     {
-        let house = self.fetched(k);
-        let known = self.fewest(k);
+        let k = capacity.places;
+        let house = self.fetched(capacity);
+        let known = self.fewest(capacity);
         let tight = tightest(&self.known[..k]);
-        let against = self.fewest(tight);
+        let against = self.fewest(Capacity { places: tight });
         Summary {
             requests: self.trace.len() as u64,
-            different: self.fetched(MAX_CAPACITIES),
+            different: self.fetched(Capacity {
+                places: MAX_CAPACITIES,
+            }),
             places: k as u64,
             house,
             known,

@@ -5,17 +5,14 @@ ghost use Rattle.curve.specs.Refused.{refusal};
 ghost use Rattle.summary.specs.Counted.{Says};
 
 use crate::reads::Report;
-use curve::MAX_CAPACITIES;
-use lru_cache::Refusal;
-
-// The most numbers that a report has.
-const REPORT_LEN: usize = 2 * MAX_CAPACITIES;
+use curve::{MAX_CAPACITIES, REPORT_LEN};
+use lru_cache::{Capacity, Refusal};
 
 #[derive(Clone, Copy, Debug, PartialEq, Eq)]
 pub struct Summary {
-    // how many requests there were ..
+    // how many requests there were
     pub requests: u64,
-    // .. and for how many different pages
+    // how many different pages were requested
     pub different: u64,
     // how many places the cache has
     pub places: u64,
@@ -25,11 +22,11 @@ pub struct Summary {
     pub known: u64,
     // a hundred times house / known, rounded up
     pub hundredths: u64,
-    // against how many places LRU's promise is tightest ..
+    // against how many places LRU's promise is tightest
     pub tight: u64,
-    // .. the fewest that anybody could have fetched with these ..
+    // the fewest that anybody could have fetched with as many as that
     pub against: u64,
-    // .. and how many fetches the promise allows LRU then
+    // how many fetches the tightest promise allows LRU
     pub allowed: u64,
     // the fewest places with which LRU fetches no more than known
     pub needed: u64,
@@ -41,6 +38,7 @@ pub fn summarize(trace: &[u64], k: usize) -> Result<Summary, Refusal>
     ensures says { IfOk result (λ s. Says trace.now k s) }
 {
     curve::check(trace, k, REPORT_LEN)?;
+    // a row of the largest size for every k, on the stack: the library takes fixed memory and no heap
     let mut row = [0; REPORT_LEN];
     belady::report(trace, MAX_CAPACITIES, &mut row)?;
     let (house, known) = row.split_at(MAX_CAPACITIES);
@@ -49,5 +47,5 @@ pub fn summarize(trace: &[u64], k: usize) -> Result<Summary, Refusal>
         house,
         known,
     };
-    Ok(report.read(k))
+    Ok(report.read(Capacity { places: k }))
 }

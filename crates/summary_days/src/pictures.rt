@@ -1,6 +1,7 @@
 // Pictures of days, and where there is none.
 use belady::report;
-use picture::draw;
+use curve::REPORT_LEN;
+use picture::{Undrawable, draw};
 use traces::TEN;
 
 pub fn show_pictures(rt: &HostRuntime) -> anyhow::Result<()> {
@@ -21,7 +22,7 @@ pub fn show_pictures(rt: &HostRuntime) -> anyhow::Result<()> {
 
 // The picture of a day's report.
 fn show_day(rt: &HostRuntime, name: &str, trace: &[u64], m: usize, k: usize) -> anyhow::Result<()> {
-    let mut row = [0; 8192];
+    let mut row = [0; REPORT_LEN];
     report(trace, m, &mut row)?;
     show(rt, name, &row, m, k)
 }
@@ -29,7 +30,11 @@ fn show_day(rt: &HostRuntime, name: &str, trace: &[u64], m: usize, k: usize) -> 
 fn show(rt: &HostRuntime, name: &str, row: &[u64], m: usize, k: usize) -> anyhow::Result<()> {
     println!(rt; "{name}:")?;
     let mut text = String::new(rt.alloc());
-    let drawn = draw(row, m, k, &mut text)?;
+    let drawn = match draw(row, m, k, &mut text) {
+        Ok(()) => true,
+        Err(Undrawable::NoRow) => false,
+        Err(error) => return Err(error.into()),
+    };
     println!(rt; "drawn {drawn}")?;
     rt.print(&text)?;
     Ok(())

@@ -1,2 +1,1 @@
-mod Gone
-mod Near
+pub mod Gone

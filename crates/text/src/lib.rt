@@ -7,5 +7,6 @@ mod messages;
 mod readers;
 mod words;
 
+pub use messages::BadWord;
 pub use readers::Reader;
 pub use words::number;

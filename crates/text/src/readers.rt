@@ -3,10 +3,11 @@ ghost use Rattle.std.specs.Prelude.{◌≡◌, ◌≤◌, min, ◌++◌, length,
 ghost use Rattle.text.specs.Texts.{begin, pages_from, after};
 ghost use Rattle.text.specs.Readers.{state_of};
 
+use crate::messages::TOLD;
 use arrayvec::ArrayVec;
 
 // How many bytes of a word are kept, to tell one that is no page: one more than are told.
-const KEPT: usize = 41;
+const KEPT: usize = TOLD + 1;
 
 // What is read.
 #[derive(Clone, Copy, Debug, PartialEq, Eq)]
@@ -43,6 +44,7 @@ impl Reader {
     }
 
     // Reads as many bytes as there are places for pages, writes the pages that they name to the front, and says how many.
+    #[tactic(auto, using(std::proofs::lemmas::List::take_min), unfolding(crate::specs::Texts::pages_from, crate::specs::Texts::after))]
     pub fn read(&mut self, bytes: &[u8], pages: &mut [u64]) -> usize
         ensures value { result ≡ length (pages_from (state_of self.old) (take (length pages.old) bytes.now)) }
         ensures bound { result ≤ min (length bytes.now) (length pages.old) }

@@ -15,7 +15,8 @@ fn with_digit(number: u32, byte: u8) -> Option<u32>
     }
 }
 
-// The number that a word is, where it is a page.
+// The number that a word is, where it is a page. Digit by digit and no `parse`, which takes a sign (`+5`) too and asks for a `&str`. A word of no
+// bytes adds up to 0: who reads one asks for a byte first, as `end_word` here and crate `options` do.
 pub fn number(word: &[u8]) -> Option<u64>
     ensures value { result ≡ number_from 0 word.now }
 {
@@ -28,6 +29,7 @@ pub fn number(word: &[u8]) -> Option<u64>
 
 impl Reader {
     // The word has one byte more.
+    #[tactic(auto, using(crate::proofs::Told::told_more))]
     fn put(&mut self, byte: u8)
         ensures after { state_of self.new ≡ with_byte (state_of self.old) byte }
     {
@@ -41,13 +43,13 @@ impl Reader {
         ensures value { result ≡ page_of (state_of self.old) }
         ensures after { state_of self.new ≡ end_word (state_of self.old) line mode }
     {
-        let page = if self.word.is_empty() {
-            None
-        } else if self.page.is_none() {
-            self.mode = Mode::Bad;
-            return None;
-        } else {
-            self.page
+        let page = match (self.word.is_empty(), self.page) {
+            (true, _) => None,
+            (false, None) => {
+                self.mode = Mode::Bad;
+                return None;
+            }
+            (false, page) => page,
         };
         self.line = line;
         self.mode = mode;

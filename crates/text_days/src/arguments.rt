@@ -24,7 +24,10 @@ fn tell_given(given: Given, said: &mut String) -> fmt::Result {
         ("svg", given.svg),
         ("rival", given.rival),
         ("rounds", given.rounds),
-        ("policy", given.policy.map(|kind| u8::from(kind) as usize)),
+        (
+            "policy",
+            given.policy.map(|kind| usize::from(u8::from(kind))),
+        ),
     ];
     for (name, value) in values {
         if let Some(value) = value {
@@ -38,14 +41,7 @@ fn tell(program: Program, words: &[String], said: &mut String) -> fmt::Result {
     match Given::read(program, words) {
         Ok(given) => tell_given(given, said),
         Err(wrong) => {
-            let word = wrongs::place_at(wrong)
-                .and_then(|place| words.get(place.checked_sub(1)?))
-                .map_or("", |word| word.as_str());
-            let message = Message {
-                wrong,
-                program,
-                word,
-            };
+            let message = Message::new(program, wrong, words);
             write!(said, " {message}")?;
             Ok(())
         }
@@ -55,38 +51,49 @@ fn tell(program: Program, words: &[String], said: &mut String) -> fmt::Result {
 fn show(rt: &HostRuntime, program: Program, line: &str) -> io::Result<()> {
     let words = split(rt.alloc(), line)?;
     let mut said = String::new(rt.alloc());
-    tell(program, words.as_slice(), &mut said)?;
+    tell(program, &words, &mut said)?;
     println!(rt; "{line}:{said}")
 }
 
+// What `play` is given.
+const PLAY: [&str; 18] = [
+    "day.txt",
+    "--text --places 3 day.txt --report 4096",
+    "--pack --places 1 --places 0007",
+    "--unpack - --help",
+    "--text --summary --svg out.svg",
+    "--foo",
+    "day.txt --",
+    "--places x",
+    "--places 0",
+    "--report 4097",
+    "--report +5",
+    "--text --report",
+    "--svg --text",
+    "a b",
+    "--text a b",
+    "--text --unpack",
+    "--pack --unpack",
+    "--rival 3",
+];
+
+// What `challenge` is given.
+const CHALLENGE: [&str; 5] = [
+    "--places 3 --rival 2 --rounds 9 --policy lfu --summary",
+    "--rounds 0 --policy lru",
+    "--rounds 65536",
+    "--policy mru",
+    "--text",
+];
+
+fn show_all(rt: &HostRuntime, program: Program, lines: &[&str]) -> io::Result<()> {
+    for line in lines {
+        show(rt, program, line)?;
+    }
+    Ok(())
+}
+
 pub(crate) fn arguments(rt: &HostRuntime) -> io::Result<()> {
-    let play = Program::Play;
-    show(rt, play, "day.txt")?;
-    show(rt, play, "--text --places 3 day.txt --report 4096")?;
-    show(rt, play, "--pack --places 1 --places 0007")?;
-    show(rt, play, "--unpack - --help")?;
-    show(rt, play, "--text --summary --svg out.svg")?;
-    show(rt, play, "--foo")?;
-    show(rt, play, "day.txt --")?;
-    show(rt, play, "--places x")?;
-    show(rt, play, "--places 0")?;
-    show(rt, play, "--report 4097")?;
-    show(rt, play, "--report +5")?;
-    show(rt, play, "--text --report")?;
-    show(rt, play, "--svg --text")?;
-    show(rt, play, "a b")?;
-    show(rt, play, "--text a b")?;
-    show(rt, play, "--text --unpack")?;
-    show(rt, play, "--pack --unpack")?;
-    show(rt, play, "--rival 3")?;
-    let challenge = Program::Challenge;
-    show(
-        rt,
-        challenge,
-        "--places 3 --rival 2 --rounds 9 --policy lfu --summary",
-    )?;
-    show(rt, challenge, "--rounds 0 --policy lru")?;
-    show(rt, challenge, "--rounds 65536")?;
-    show(rt, challenge, "--policy mru")?;
-    show(rt, challenge, "--text")
+    show_all(rt, Program::Play, &PLAY)?;
+    show_all(rt, Program::Challenge, &CHALLENGE)
 }

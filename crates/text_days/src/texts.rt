@@ -20,12 +20,12 @@ fn tell(text: &[u8], cut: usize, said: &mut String) -> fmt::Result {
     let mut reader = Reader::new();
     let mut row = [0u64; 256];
     let n = read_cut(&mut reader, text, cut, &mut row);
+    // A blank before each, as `traces::Pages` has it: two lines here, and this program stands on no traces.
     for page in &row[..n] {
         write!(said, " {page}")?;
     }
-    if reader.is_bad() {
-        write!(said, " day.txt:")?;
-        reader.tell_bad(said)?;
+    if let Some(word) = reader.bad() {
+        write!(said, " day.txt:{word}")?;
     }
     Ok(())
 }
@@ -38,37 +38,40 @@ fn show(rt: &HostRuntime, name: &str, text: &str) -> io::Result<()> {
     for cut in 1..text.len() {
         let mut again = String::new(rt.alloc());
         tell(text.as_bytes(), cut, &mut again)?;
-        if again.as_str() != said.as_str() {
+        if again != said {
             println!(rt; "{name}, cut at {cut}:{again}")?;
         }
     }
     Ok(())
 }
 
-pub(crate) fn texts(rt: &HostRuntime) -> io::Result<()> {
-    show(rt, "one a line", "1\n2\n3\n")?;
-    show(rt, "several in a line", "1 2\t3\r\n  4\n\n5")?;
-    show(rt, "comments", "# ten\n1#one\n2 # two 3\n#\n4#")?;
-    show(rt, "nothing", "")?;
-    show(rt, "blanks", " \t\r\n \n")?;
-    show(rt, "the largest", "4294967295 0 00000000000000000007")?;
-    show(rt, "one too large", "1\n4294967296\n2\n")?;
-    show(rt, "much too large", "18446744073709551617 1")?;
-    show(rt, "no digits", "1 2\n\n# 3\n4 abc 5\n")?;
-    show(rt, "a sign", "7\n-1\n")?;
-    show(rt, "another", "+5")?;
-    show(rt, "a fraction", "5.0 6")?;
-    show(rt, "not in ASCII", "1\n\u{e9}\u{1}x\n")?;
-    show(
-        rt,
-        "forty bytes",
-        "x234567890123456789012345678901234567890",
-    )?;
-    show(
-        rt,
+// Texts by what they show.
+const TEXTS: [(&str, &str); 15] = [
+    ("one a line", "1\n2\n3\n"),
+    ("several in a line", "1 2\t3\r\n  4\n\n5"),
+    ("comments", "# ten\n1#one\n2 # two 3\n#\n4#"),
+    ("nothing", ""),
+    ("blanks", " \t\r\n \n"),
+    ("the largest", "4294967295 0 00000000000000000007"),
+    ("one too large", "1\n4294967296\n2\n"),
+    ("much too large", "18446744073709551617 1"),
+    ("no digits", "1 2\n\n# 3\n4 abc 5\n"),
+    ("a sign", "7\n-1\n"),
+    ("another", "+5"),
+    ("a fraction", "5.0 6"),
+    ("not in ASCII", "1\n\u{e9}\u{1}x\n"),
+    ("forty bytes", "x234567890123456789012345678901234567890"),
+    (
         "and one more",
         "x2345678901234567890123456789012345678901 2",
-    )
+    ),
+];
+
+pub(crate) fn texts(rt: &HostRuntime) -> io::Result<()> {
+    for (name, text) in TEXTS {
+        show(rt, name, text)?;
+    }
+    Ok(())
 }
 
 // Whether bytes are the same as text and in bytes again, behind the text.
@@ -100,9 +103,10 @@ pub(crate) fn backs(rt: &HostRuntime) -> io::Result<()> {
         &[0, 0, 0, 0, 0, 0, 0, 1, 4, 3, 2, 1, 10, 0, 0, 0],
     )?;
     back(rt, "a request and a half", &[7, 0, 0, 0, 7, 0])?;
-    let [a, b, c, d] = convert::pack_header(Header {
+    let header = Header {
         capacity: 40,
         reported: 4096,
-    });
+    };
+    let [a, b, c, d] = <[u8; 4]>::from(header);
     println!(rt; "header: {a} {b} {c} {d}")
 }

@@ -2,11 +2,12 @@
 //
 // A trace begins with a header of four bytes (`read_header`), and each request after it has four bytes more (`decode`). What
 // the bytes mean is in specs/Requests.antt and specs/Headers.antt. `Line` is a line of the output, and specs/Lines.antt has its
-// bytes.
+// bytes. `Detail` is how much of it is asked for.
 //
 // A challenge is set by seven bytes (`read_settings`), is against a `PolicyKind`, and ends in a line with its counts (`Totals`).
 #![tactic(auto)]
 
+mod details;
 mod headers;
 mod kinds;
 mod lines;
@@ -14,8 +15,9 @@ mod requests;
 mod settings;
 mod totals;
 
-pub use headers::{Header, read_header};
-pub use kinds::{PolicyKind, UnknownPolicy};
+pub use details::Detail;
+pub use headers::{Header, PLACES, read_header};
+pub use kinds::{PolicyKind, UnknownName, UnknownPolicy};
 pub use lines::Line;
 pub use requests::decode;
 pub use settings::{Settings, read_settings};

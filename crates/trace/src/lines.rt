@@ -4,6 +4,7 @@ ghost use Rattle.trace.specs.Lines.{line_bytes};
 
 use std::fmt;
 
+// No `Outcome` with a page beside it: that is recency's, and this crate stands on no other.
 #[derive(Clone, Copy, Debug, PartialEq, Eq)]
 pub enum Line {
     // the page was in the cache

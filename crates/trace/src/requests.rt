@@ -9,8 +9,9 @@ pub fn decode(bytes: &[u8], out: &mut [u64]) -> usize
 {
     let (groups, _) = bytes.as_chunks::<4>();
     let count = groups.len().min(out.len());
-    for (i, group) in groups[..count].iter().enumerate() {
-        out[i] = u64::from(u32::from_le_bytes(*group));
+    // No `zip` with the groups: it was tried, and a proof then knows how long `out` is, and not what it holds.
+    for (i, page) in out[..count].iter_mut().enumerate() {
+        *page = u64::from(u32::from_le_bytes(groups[i]));
     }
     count
 }

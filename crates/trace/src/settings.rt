@@ -10,7 +10,7 @@ pub struct Settings {
     pub places: u16,
     // how many rounds are played
     pub rounds: u16,
-    // the policy's number as it was read, which may be no `PolicyKind`'s: an option may stand over it before it is used
+    // the policy's number as it was read, which may be no `PolicyKind`'s: an option may stand over it, and it is refused after all options
     pub policy: u8,
 }
 

@@ -1,11 +1,12 @@
 // Cases for a function that writes numbers for m capacities into a row, most of them at the edges of what it takes.
 ghost use Rattle.std.specs.Prelude.{◌≡◌, ◌==◌, IfOk, drop, replicate};
 ghost use Rattle.std.specs.List.{list_all};
-ghost use Rattle.traces.specs.Cases.{Lists};
+ghost use Rattle.traces.specs.Cases.{Lists, is_shown, rest_text};
 
 use crate::day::Day;
 use crate::kind::Kind;
-use crate::worked::{ROUNDS, TEN};
+use crate::marks::is_marked;
+use crate::worked::{ROUNDS, TEN, TOP};
 use std::alloc::{AllocError, Global};
 
 // What a row holds before.
@@ -44,13 +45,31 @@ impl Case {
     {
         vec![in heap; MARK; self.room]
     }
+
+    // Whether the numbers of c places are shown: of the first four, of 63 and 64, and of the last.
+    pub fn shows(&self, c: usize) -> bool
+        ensures { result ≡ is_shown self.now.m c }
+    {
+        c <= 4 || c == 63 || c == 64 || c == self.m
+    }
 }
 
 // Whether each number from a place on is as it was.
 pub fn is_kept(row: &[u64], from: usize) -> bool
     ensures { result ≡ list_all (λ x. x == MARK) (drop from row.now) }
 {
-    row.iter().skip(from).all(|x| *x == MARK)
+    is_marked(row, from, &MARK)
+}
+
+// What is said of the numbers from a place on.
+pub fn rest(row: &[u64], from: usize) -> &'static str
+    ensures { result.now ≡ rest_text (list_all (λ x. x == MARK) (drop from row.now)) }
+{
+    if is_kept(row, from) {
+        "the rest as it was"
+    } else {
+        "the rest is not as it was"
+    }
 }
 
 // Days that are worked out by hand.
@@ -69,6 +88,14 @@ pub const WORKED: [Case; 2] = [
     },
 ];
 
+// The largest page is taken.
+pub const LARGEST_PAGE: Case = Case {
+    name: "the largest page",
+    requests: Requests::Listed(&[TOP, 0, TOP]),
+    m: 1,
+    room: 2,
+};
+
 // Traces that are refused.
 pub const BAD_TRACES: [Case; 2] = [
     Case {
@@ -84,6 +111,14 @@ pub const BAD_TRACES: [Case; 2] = [
         room: 2,
     },
 ];
+
+// A trace and a number of capacities that are both refused.
+pub const BAD_TWICE: [Case; 1] = [Case {
+    name: "4097 requests, no capacity",
+    requests: Requests::Listed(&[9; 4097]),
+    m: 0,
+    room: 0,
+}];
 
 // Capacities that are refused, and rows that are too short for them.
 pub const BAD_CAPACITIES: [Case; 6] = [

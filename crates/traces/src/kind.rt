@@ -1,6 +1,6 @@
 // Traces of several kinds.
-ghost use Rattle.std.specs.Prelude.{◌≡◌, ◌+◌, ◌%◌, ◌<◌, Some};
-ghost use Rattle.traces.specs.Kind.{IsMade, IsNear};
+ghost use Rattle.std.specs.Prelude.{◌≡◌, ◌<◌, Some};
+ghost use Rattle.traces.specs.Kind.{IsMade, next_page};
 
 use crate::random::Random;
 use std::fmt;
@@ -13,6 +13,9 @@ pub enum Kind {
     // One after the other, over and over.
     InTurn,
 }
+
+// All of them.
+pub(crate) const KINDS: [Kind; 3] = [Kind::AnyPage, Kind::NearTheLast, Kind::InTurn];
 
 impl fmt::Display for Kind {
     ghost use Rattle.traces.specs.Kind.{name};
@@ -29,17 +32,16 @@ impl fmt::Display for Kind {
 }
 
 impl Kind {
-    // The page after another.
-    fn next(self, last: u64, pages: u64, random: &mut Random) -> u64
-        requires some { 0 < pages }
+    // The page after another, where the generator gives this number.
+    fn next(self, last: u64, pages: u64, number: u64) -> u64
         requires last { last < pages }
         ensures below { result < pages }
-        ensures near { self ≡ Kind.NearTheLast → IsNear pages last result }
-        ensures in_turn { self ≡ Kind.InTurn → result ≡ (last + 1) % pages }
+        ensures next { result ≡ next_page self pages last number }
     {
         match self {
-            Kind::AnyPage => random.draw() % pages,
-            Kind::NearTheLast => last.wrapping_add(random.draw() % 7) % pages,
+            Kind::AnyPage => number % pages,
+            // it wraps, since the last page may be near 2^64
+            Kind::NearTheLast => last.wrapping_add(number % 7) % pages,
             Kind::InTurn => (last + 1) % pages,
         }
     }
@@ -55,7 +57,7 @@ impl Kind {
         let mut random = Random::new(pages);
         let mut last = 0;
         for page in trace.iter_mut() {
-            last = self.next(last, pages, &mut random);
+            last = self.next(last, pages, random.draw());
             *page = last;
         }
     }

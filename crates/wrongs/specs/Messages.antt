@@ -1,9 +1,11 @@
 -- What is said of wrong arguments. Assumes nothing: these are definitions.
 --     wants option             what it takes for a value
---     place_at wrong           which argument is at fault, where one is
+--     word_of wrong words      the argument at fault, and no byte where none is
 --     wrong_line p wrong word  what is said, without the line break; word is the argument at fault
-use Rattle.std.specs.Prelude.{ℕ, cond, List, ◌++◌, codes, decimal, Some, None, Option, ◌==◌}
+use Rattle.std.specs.Prelude.{ℕ, cond, List, [], ◌++◌, codes, decimal, ◌==◌}
+use Rattle.std.specs.Option.{option_and_then, unwrap_or}
 use Rattle.options.specs.Names.{program_name, name_of}
+use Rattle.options.specs.Places.{word_at, place_at}
 use Rattle.options.specs.declared.names.Program.{Program}
 use Rattle.options.specs.declared.names.Opt.{Opt}
 use Rattle.options.specs.declared.names.Opt.TheVariants.{File, Help, Text, Places, Report, Pack, Unpack, Summary, Svg, Rival, Rounds, Policy}
@@ -14,22 +16,18 @@ abbrev pub wants : Opt → List ℕ
 wants File = codes "no value"
 wants Help = codes "no value"
 wants Text = codes "no value"
-wants Places = codes "a number from 1 to 4096"
-wants Report = codes "a number from 1 to 4096"
+wants Places = codes "a number from 1 to " ++ decimal 4096
+wants Report = codes "a number from 1 to " ++ decimal 4096
 wants Pack = codes "no value"
 wants Unpack = codes "no value"
 wants Summary = codes "no value"
 wants Svg = codes "a file name"
-wants Rival = codes "a number from 1 to 4096"
-wants Rounds = codes "a number from 0 to 65535"
+wants Rival = codes "a number from 1 to " ++ decimal 4096
+wants Rounds = codes "a number from 0 to " ++ decimal 65535
 wants Policy = codes "lru, fifo or lfu"
 
-abbrev pub place_at : Wrong → Option ℕ
-place_at (Unknown i) = Some i
-place_at (Value o i) = Some i
-place_at (Missing o) = None
-place_at (SecondFile i) = Some i
-place_at (Together a b) = None
+abbrev pub word_of : Wrong → List (List ℕ) → List ℕ
+word_of wrong words = unwrap_or (option_and_then (word_at words) (place_at wrong)) []
 
 -- two arguments where one is wanted, or two files among options
 abbrev pub at_most_one : ℕ → List ℕ

@@ -3,4 +3,4 @@
 
 mod messages;
 
-pub use messages::{Message, place_at, tell_wrong};
+pub use messages::Message;

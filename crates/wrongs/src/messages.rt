@@ -1,38 +1,37 @@
 // What is said of wrong arguments.
-ghost use Rattle.std.specs.Prelude.{◌≡◌, true, ◌++◌, is_ok, Some, string_bytes};
-ghost use Rattle.wrongs.specs.Messages.{wants, place_at, at_most_one, wrong_line};
+ghost use Rattle.std.specs.Prelude.{◌≡◌, map, Some, string_bytes};
+ghost use Rattle.wrongs.specs.Messages.{wants, at_most_one, word_of, wrong_line};
 
-use options::{Opt, Program, Wrong};
+use options::{MOST_PLACES, MOST_ROUNDS, Opt, Program, Wrong, word_at};
 use std::error::Error;
 use std::fmt;
 
 // What an option takes for a value.
-fn wants(option: Opt) -> &'static str
-    ensures value { result.now ≡ wants option }
-{
-    match option {
-        Opt::Places | Opt::Report | Opt::Rival => "a number from 1 to 4096",
-        Opt::Rounds => "a number from 0 to 65535",
-        Opt::Policy => "lru, fifo or lfu",
-        Opt::Svg => "a file name",
-        _ => "no value",
+#[derive(Clone, Copy)]
+struct Wanted(Opt);
+
+impl fmt::Display for Wanted {
+    ghost output = { λ w. Some (wants w.0) };
+
+    fn fmt<W: fmt::Write>(&self, f: &mut fmt::Formatter<W>) -> fmt::Result {
+        match self.0 {
+            Opt::Places | Opt::Report | Opt::Rival => {
+                write!(f, "a number from 1 to {MOST_PLACES}")
+            }
+            Opt::Rounds => write!(f, "a number from 0 to {MOST_ROUNDS}"),
+            Opt::Policy => f.write_str("lru, fifo or lfu"),
+            Opt::Svg => f.write_str("a file name"),
+            _ => f.write_str("no value"),
+        }
     }
 }
 
+// What there may be one of, where argument i is a second file: argument 2 is one only behind a file alone, and later ones may have options before
+// them.
 fn at_most_one(i: usize) -> &'static str
     ensures value { result.now ≡ at_most_one i }
 {
     if i == 2 { "argument" } else { "file" }
-}
-
-// Which argument is at fault, where one is. A function, since `Wrong` is a type of another crate.
-pub fn place_at(wrong: Wrong) -> Option<usize>
-    ensures value { result ≡ place_at wrong }
-{
-    match wrong {
-        Wrong::Unknown(i) | Wrong::Value(_, i) | Wrong::SecondFile(i) => Some(i),
-        Wrong::Missing(_) | Wrong::Together(_, _) => None,
-    }
 }
 
 // What is wrong with the arguments of a program, as it is said; `word` is the argument at fault.
@@ -41,6 +40,22 @@ pub struct Message<'a> {
     pub wrong: Wrong,
     pub program: Program,
     pub word: &'a str,
+}
+
+impl<'a> Message<'a> {
+    // What is wrong with these arguments.
+    pub fn new(program: Program, wrong: Wrong, words: &'a [String]) -> Message<'a>
+        ensures program { result.program ≡ program }
+        ensures wrong { result.wrong ≡ wrong }
+        ensures word { result.word.now ≡ word_of wrong (map string_bytes words.now) }
+    {
+        let word = wrong.place().and_then(|place| word_at(words, place));
+        Message {
+            wrong,
+            program,
+            word: word.unwrap_or(""),
+        }
+    }
 }
 
 impl fmt::Display for Message<'_> {
@@ -58,11 +73,11 @@ impl fmt::Display for Message<'_> {
                 "{program}: unknown option '{word}' (see {program} --help)"
             ),
             Wrong::Value(option, _) => {
-                let wanted = wants(option);
+                let wanted = Wanted(option);
                 write!(f, "{program}: {option} needs {wanted}, not '{word}'")
             }
             Wrong::Missing(option) => {
-                let wanted = wants(option);
+                let wanted = Wanted(option);
                 write!(f, "{program}: {option} needs {wanted}")
             }
             Wrong::SecondFile(i) => {
@@ -77,15 +92,3 @@ impl fmt::Display for Message<'_> {
 }
 
 impl Error for Message<'_> {}
-
-// Adds what is said of the arguments to the text; `word` is the one at fault.
-pub fn tell_wrong(wrong: Wrong, program: Program, word: &str, text: &mut String) -> fmt::Result
-    ensures after { is_ok result ≡ true → string_bytes text.new ≡ string_bytes text.old ++ wrong_line program wrong word.now }
-{
-    let message = Message {
-        wrong,
-        program,
-        word,
-    };
-    write!(text, "{message}").map_err(fmt::Error::from)
-}

@@ -5,4 +5,4 @@ use Rattle.belady.proofs.rule.fetches.Given as goal
 
 abbrev pub invariant-loop-i : goal.invariant-loop-i
 invariant-loop-i l =
-    record { ready : Ready l.trace l.i l.cache; places : l.cache.places ≡ l.h; so_far : Fetched l.h l.trace l.i l.fetched (held l.cache) }
+    record { ready : Ready l.trace l.i l.cache; places : l.cache.capacity.places ≡ l.h; so_far : Fetched l.h l.trace l.i l.fetched (held l.cache) }

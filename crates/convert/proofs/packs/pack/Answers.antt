@@ -1,7 +1,6 @@
 -- A turn writes the bytes of one page more.
-use Rattle.std.proofs.Common.{◌≡◌, ◌<◌, length, take, arith}
+use Rattle.std.proofs.Common.{◌≡◌, ◌<◌, length, arith}
 use Rattle.std.proofs.lemmas.List.{length-take, get_or-take}
-use Rattle.convert.proofs.Backs.{text_there}
 use Rattle.convert.proofs.Packed.{packed_more}
 use Rattle.convert.proofs.packs.pack.Goals as goal
 
@@ -12,9 +11,3 @@ loop-i-preserved c =
     let within : c.loop-i.i < length c.args.pages.now = omega arith in
     let page = get_or-take c.min.result c.args.pages.now c.loop-i.i 0 (omega arith) in
     (same, packed_more _ _ _ _ _ _ within page c.loop-i.invariant.1 c.put_page.ensures.after)
-
-pub returns : goal.returns
-returns c =
-    let long = length-take c.min.result c.args.pages.now in
-    let all : c.loop-i.i ≡ length (take c.min.result c.args.pages.now) = omega arith in
-    record { value = omega arith; after = rw (← all) c.loop-i.invariant.1; back = text_there }

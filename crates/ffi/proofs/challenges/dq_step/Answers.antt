@@ -1,4 +1,4 @@
-use Rattle.std.proofs.Common.{sym, ◌∙◌, rules}
+use Rattle.std.proofs.Common.{rules}
 use Rattle.ffi.proofs.Turns.{if_long_is}
 use Rattle.ffi.proofs.challenges.dq_step.Goals as goal
 
@@ -12,5 +12,5 @@ returns-in-Ok c =
 pub returns-in-Err : goal.returns-in-Err
 returns-in-Err c =
     let s = c.in-Some.ensures.cases in
-    let e = sym (if_long_is c.in-Some.challenge _ _ s.room) ∙ c.in-Err.ensures.refused in
-    rw s.is (record { cases = record { challenge = c.in-Some.challenge; stands_at = s; cases = rw e (record { value = search rules; same_state = search rules; same_row = search rules }) } })
+    let why = rw (if_long_is c.in-Some.challenge _ _ s.room) at c.in-Err.ensures.refused in
+    rw s.is (record { cases = record { challenge = c.in-Some.challenge; stands_at = s; cases = rw why (search rules) } })

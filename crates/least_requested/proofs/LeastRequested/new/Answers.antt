@@ -1,4 +1,4 @@
-use Rattle.std.proofs.Common.{refl, arith}
+use Rattle.std.proofs.Common.{◌≡◌, refl, arith}
 use Rattle.paging.specs.Lists.{distinct}
 use Rattle.least_requested.specs.Counting.{paired}
 use Rattle.least_requested.proofs.Capped.{counting_does}
@@ -8,6 +8,8 @@ pub invariant_of-result-clause-once : goal.invariant_of-result-clause-once
 unfolding distinct
 invariant_of-result-clause-once c = rw c.in_ok-pages.ensures.items refl
 
-pub returns : goal.returns
+pub returns-clause-cases : goal.returns-clause-cases
 unfolding paired
-returns c = rw (c.in_ok-pages.ensures.items) (record { cases = counting_does c.args.k (omega arith) })
+returns-clause-cases c =
+    let is : c.in_ok-capacity.capacity.places ≡ c.args.k = rw c.in_ok-capacity.ensures.ok_part at c.new.ensures.cases in
+    rw (c.in_ok-pages.ensures.items, is) (counting_does c.args.k (omega (arith, is)))

@@ -3,7 +3,7 @@ use Rattle.std.specs.Option.{ok_or}
 use Rattle.std.proofs.lemmas.Result.{err_from_is_err_and}
 use Rattle.lru_cache.specs.Promises.{Shaped}
 use Rattle.lru_cache.specs.Rows.{capacity, cached, shaped}
-use Rattle.lru_cache.specs.declared.checks.Capacity.{Capacity}
+use Rattle.recency.specs.declared.layout.Capacity.{Capacity}
 use Rattle.lru_cache.specs.declared.refusals.Refusal.{Refusal}
 use Rattle.lru_cache.specs.declared.refusals.Refusal.TheVariants.{NoCache}
 use Rattle.lru_cache.proofs.Faults.{fault_unshaped, fault_overfull, fault_pages, fine}

@@ -15,14 +15,14 @@ loop-i-preserved c =
     let inv = c.loop-i.invariant in
     let o = c.request-outcome.ensures.value in
     let cost : c.cost-fetches.result ≡ fetches_of (outcome k cache page) = c.cost-fetches.ensures.value ∙ ap fetches_of o in
-    let noted : c.note.new.found ≡ set c.loop-i.found i (outcome k cache page) = c.note.ensures.after ∙ ap (λ (x : Outcome). set c.loop-i.found i x) o in
+    let noted : c.write_at.new.row ≡ set c.loop-i.found i (outcome k cache page) = c.write_at.ensures.after ∙ ap (λ (x : Outcome). set c.loop-i.found i x) o in
     let ran = ran_more k c.args.trace.now (recent.pages c.args.index.now) c.args.found.now i c.loop-i.fetches cache c.loop-i.found inv.1 (omega arith) in (
       c.request-outcome.ensures.sound,
       rw (cost, noted, c.request-outcome.ensures.after) ran,
       c.request-outcome.ensures.beyond ∙ inv.2,
       omega (arith, ran.few, cost),
       c.request-outcome.auto.row ∙ inv.4,
-      c.note.auto.found ∙ inv.5,
+      c.write_at.auto.row ∙ inv.5,
     )
 
 pub returns : goal.returns

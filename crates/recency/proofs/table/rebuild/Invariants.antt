@@ -5,4 +5,4 @@ use Rattle.recency.proofs.table.rebuild.Given as goal
 
 abbrev pub invariant-loop-slot : goal.invariant-loop-slot
 invariant-loop-slot l =
-    Entered l.k l.initial.row l.row l.slot × (l.slot ≤ count l.row + 1) × (count l.row ≡ count l.initial.row) × (length l.row ≡ length l.initial.row)
+    Entered l.k.places l.initial.row l.row l.slot × (l.slot ≤ count l.row + 1) × (count l.row ≡ count l.initial.row) × (length l.row ≡ length l.initial.row)

@@ -4,4 +4,4 @@ use Rattle.recency.specs.Hash.{home}
 use Rattle.recency.proofs.table.vacant.Given as goal
 
 abbrev pub invariant-loop-p : goal.invariant-loop-p
-invariant-loop-p l = (q : ℕ) → home l.k l.page ≤ q → q < l.p → 0 < cell l.k l.row q
+invariant-loop-p l = (q : ℕ) → home l.k.places l.page ≤ q → q < l.p → 0 < cell l.k.places l.row q

@@ -1,8 +1,5 @@
-use Rattle.recency.proofs.Misses.{ready_head, ready_table, filled_served}
+use Rattle.recency.proofs.Misses.{ready_table, filled_served}
 use Rattle.recency.proofs.uses.fill.Goals as goal
-
-pub admit-requires-clause-head : goal.admit-requires-clause-head
-admit-requires-clause-head c = ready_head c.args.k c.args.row.now c.requires.sound c.requires.room
 
 pub admit-requires-clause-table : goal.admit-requires-clause-table
 admit-requires-clause-table c = ready_table c.args.k c.args.row.now c.requires.sound c.requires.room

@@ -1,7 +1,6 @@
-use Rattle.std.proofs.Common.{◌≡◌, ap, ◌∙◌, arith}
-use Rattle.recency.specs.Row.{count, pages}
+use Rattle.std.proofs.Common.{ap, ◌∙◌, arith}
+use Rattle.recency.specs.Row.{pages}
 use Rattle.recency.specs.declared.uses.Outcome.TheVariants.{Evicted}
-use Rattle.recency.proofs.Misses.{last_high}
 use Rattle.recency.proofs.Outcomes.{outcome_hit, outcome_filled, outcome_evicted}
 use Rattle.recency.proofs.Pages.{page_found, page_missed, length_pages}
 use Rattle.recency.proofs.Served.{Served, hit_taken, hit_served}
@@ -12,7 +11,7 @@ touch-requires c =
     let found = c.in-Some.ensures.cases in
     let t = hit_taken c.args.k c.args.row.now c.requires.sound c.in-Some.slot found.0 found.1 in
     let long = c.requires.sound.sized.long in
-    record { slot_within = omega arith; next_within = omega arith; prev_within = omega arith; head_within = omega arith }
+    record { linked = record { slot = omega arith; next = omega arith; prev = omega arith }; head_within = omega arith }
 
 pub returns-in-Some : goal.returns-in-Some
 returns-in-Some c =
@@ -31,13 +30,6 @@ pub returns-then-row-k-clause-value : goal.returns-then-row-k-clause-value
 returns-then-row-k-clause-value c =
     let many = length_pages _ _ c.requires.sound in
     outcome_filled _ _ c.args.page (page_missed _ _ c.requires.sound c.args.page c.in_default.ensures.cases) (omega arith)
-
-pub evict-requires-clause-last_within : goal.evict-requires-clause-last_within
-evict-requires-clause-last_within c =
-    let few = c.requires.sound.sized.few in
-    let full : count c.args.row.now ≡ c.args.k = omega arith in
-    let high = last_high c.args.k c.args.row.now c.requires.sound full in
-    omega (arith, c.requires.sound.sized.long)
 
 pub evict-requires-clause-absent : goal.evict-requires-clause-absent
 evict-requires-clause-absent c = page_missed _ _ c.requires.sound c.args.page c.in_default.ensures.cases

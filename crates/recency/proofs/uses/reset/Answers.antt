@@ -5,14 +5,14 @@ use Rattle.recency.proofs.uses.reset.Goals as goal
 
 pub returns : goal.returns
 returns c =
-    let k = c.args.k in
+    let k = c.args.k.places in
     let w = c.wipe.ensures in
     let long = c.requires.long in
     let len = w.kept.len in
     let sets : length (set (set (set c.args.row.now 0 0) 2 0) 3 0) ≡ length c.args.row.now = simp length-set in
     let at = w.kept.same in
     record {
-      after = emptied k c.args.row.now c.wipe.new.row c.requires.low c.requires.high (omega arith)
+      after = emptied k c.args.row.now c.wipe.new.row c.args.k.some c.args.k.most (omega arith)
           (at 0 (λ e. omega arith) (omega arith) ∙ grind (arith, get_or-set_same, get_or-set_other, length-set)) w.used
           (at 2 (λ e. omega arith) (omega arith) ∙ grind (arith, get_or-set_same, get_or-set_other, length-set))
           (at 3 (λ e. omega arith) (omega arith) ∙ grind (arith, get_or-set_same, get_or-set_other, length-set)) w.empty

@@ -1,16 +1,16 @@
-use Rattle.std.proofs.Common.{sym, ◌∙◌, arith}
-use Rattle.telling.proofs.Gone.{gone_later, gone_here, gone_none}
+use Rattle.std.proofs.Common.{not, rules}
+use Rattle.std.proofs.lemmas.Iterator.{YieldsList-from_slice}
+use Rattle.std.proofs.lemmas.Iterator.Consumers.{YieldsList-from_enumerate}
+use Rattle.std.proofs.lemmas.Iterator.Search.{find_from_yields_List}
+use Rattle.paging.specs.Lists.{has}
+use Rattle.telling.proofs.Gone.{gone_found}
 use Rattle.telling.proofs.lines.missing.Goals as goal
 
-pub returns-then-not-stays : goal.returns-then-not-stays
-returns-then-not-stays c =
-    let away = gone_here c.args.before.now c.args.after.now c.loop-i.i (omega arith) (sym c.if-not-stays.ensures.value) in
-    record { value = sym away ∙ c.loop-i.invariant }
-
-pub loop-i-preserved : goal.loop-i-preserved
-loop-i-preserved c =
-    let later = gone_later c.args.before.now c.args.after.now c.loop-i.i (omega arith) (sym c.if-not-stays.ensures.value) in
-    sym later ∙ c.loop-i.invariant
-
 pub returns : goal.returns
-returns c = record { value = sym (gone_none c.args.before.now c.args.after.now c.loop-i.i (omega arith)) ∙ c.loop-i.invariant }
+returns c =
+    let before = c.args.before.now in
+    let after = c.args.after.now in
+    let walk = YieldsList-from_enumerate (YieldsList-from_slice before (search rules)) (search rules) in
+    let found = find_from_yields_List (λ p. not (has after p.1)) _ _ c.find.result c.find.ensures.ran walk (λ x b q called. search rules) in
+    let same = gone_found before after 0 in
+    record { value = search rules }

@@ -1,7 +1,7 @@
--- So far the front of the row holds what the bytes request, and the rest is as it was.
+-- So far the front of the pages is what the bytes request, and the rest is as it was.
 use Rattle.std.proofs.Common.{◌≡◌, ◌++◌, length, take, drop}
 use Rattle.trace.specs.Requests.{requests_in}
 use Rattle.trace.proofs.requests.decode.Given as goal
 
 abbrev pub invariant-loop-i : goal.invariant-loop-i
-invariant-loop-i l = (length l.out ≡ length l.initial.out) × (l.out ≡ take l.i (requests_in l.bytes) ++ drop l.i l.initial.out)
+invariant-loop-i l = (length l.page-items ≡ l.count) × (l.page-items ≡ take l.i (requests_in l.bytes) ++ drop l.i l.initial.page-items)

@@ -1,12 +1,9 @@
-use Rattle.std.proofs.Common.{arith, rules, sym, ◌≡◌, ◌≢◌, ℕ, ◌+◌, ◌<◌, length, ap, ◌∙◌, add-one, get_or-set_other, get_or-set_same, below_more}
+use Rattle.std.proofs.Common.{arith, rules, sym, ◌≡◌, ◌≢◌, ◌+◌, ◌<◌, length, ap, ◌∙◌, get_or-set_other, get_or-set_same, below_more}
 use Rattle.std.proofs.lemmas.Grind.{common_steps}
 use Rattle.traces.specs.Random.{after, after_steps}
 use Rattle.traces.specs.declared.random.Random.{Random}
+use Rattle.traces.proofs.Steps.{after_steps-more}
 use Rattle.traces.proofs.random.draw.Goals as goal
-
-after_steps-more : (n : ℕ) (r : Random) → after_steps (n + 1) r ≡ after (after_steps n r)
-unfolding after_steps
-after_steps-more n r = rw add-one
 
 pub loop-page-init : goal.loop-page-init
 unfolding after_steps

@@ -7,33 +7,34 @@ use Rattle.adversary.proofs.Edited.{once_there, once_new}
 use Rattle.adversary.proofs.Gathered.{marks_again, gather_room, gather_full}
 use Rattle.adversary.proofs.Marked.{marks_push}
 use Rattle.adversary.proofs.challenge.Challenge.add.Goals as goal
+use Rattle.adversary.proofs.challenge.Challenge.add.Goals.{then-noted-self-via-then-noted-self, then-noted-self-via-else-noted-self+then-eq}
 
-pub returns-then-noted-self-clause-after : goal.returns-then-noted-self-clause-after
-returns-then-noted-self-clause-after c =
-    let s = c.args.self in
-    let noted = take c.args.noted c.args.picked.now in
-    let l = length-take c.args.noted c.args.picked.now in
-    let within = s.within in
-    sym (gather_full s.h noted c.args.page (c.args.page ∷ []) (omega arith))
-
-pub returns-then-eq : goal.returns-then-eq
-returns-then-eq c =
+pub returns-then-noted-self : goal.returns-then-noted-self
+returns-then-noted-self c =
     let s = c.args.self in
     let page = c.args.page in
     let noted = take c.args.noted c.args.picked.now in
     let l = length-take c.args.noted c.args.picked.now in
     let within = s.within in
     let m = c.requires.marked in
-    let r = c.request.ensures in
-    let hit : c.request.result ≡ Hit = search rules in
-    let marked = hit_there s.k (recent.pages c.args.seen.now) page (sym hit ∙ r.value) in
-    let there = sym (m.same page) ∙ marked in
-    record {
-      few = omega arith;
-      after = sym (gather_room s.h noted page (omega arith) ∙ once_there noted page there);
-      marked = marks_again s.k c.args.seen.now noted page c.request.new.row m (omega arith) marked r.after r.sound;
-      rest = refl;
-    }
+    elim c.then-noted-self.branch [
+      | then-noted-self-via-then-noted-self w ↦
+          let full = w.if-noted-self.true in
+          let after = sym (gather_full s.h noted page (page ∷ []) (omega arith)) in
+          rw w.seen-is (record { few = omega arith; after = after; marked = m; rest = refl })
+      | then-noted-self-via-else-noted-self+then-eq w ↦
+          let room = w.if-noted-self.false in
+          let r = w.request.ensures in
+          let hit : w.request.result ≡ Hit = search rules in
+          let marked = hit_there s.k (recent.pages c.args.seen.now) page (sym hit ∙ r.value) in
+          let there = sym (m.same page) ∙ marked in
+          rw w.seen-is (record {
+            few = omega arith;
+            after = sym (gather_room s.h noted page (omega arith) ∙ once_there noted page there);
+            marked = marks_again s.k c.args.seen.now noted page w.request.new.row m (omega arith) marked r.after r.sound;
+            rest = refl;
+          })
+    ]
 
 pub returns : goal.returns
 returns c =

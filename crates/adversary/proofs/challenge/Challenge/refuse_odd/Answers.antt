@@ -8,22 +8,23 @@ use Rattle.adversary.proofs.Broken.{told_at}
 use Rattle.adversary.proofs.Marked.{marks_push}
 use Rattle.adversary.proofs.Odd.{odd_strange, odd_twice, odd_more, odd_all}
 use Rattle.adversary.proofs.challenge.Challenge.refuse_odd.Goals as goal
+use Rattle.adversary.proofs.challenge.Challenge.refuse_odd.Goals.{then-not-allows-via-then-not-allows, then-not-allows-via-else-not-allows+then-eq}
 
 pub returns-then-not-allows : goal.returns-then-not-allows
 returns-then-not-allows c =
-    let allowed = c.args.self.last ∷ recent.pages c.args.before.now in
-    let strange = sym c.allows.ensures.value ∙ c.if-not-allows.true in
-    let i = c.loop-i.i in
-    record { cases = told_at _ i (sym c.loop-i.invariant.1 ∙ odd_strange (recent.pages c.loop-i.seen) allowed c.args.shown.now i (omega arith) strange) }
-
-pub returns-then-eq : goal.returns-then-eq
-returns-then-eq c =
     let seen = recent.pages c.loop-i.seen in
     let allowed = c.args.self.last ∷ recent.pages c.args.before.now in
+    let shown = c.args.shown.now in
     let i = c.loop-i.i in
-    let hit : c.request.result ≡ Hit = search rules in
-    let there = hit_there c.args.self.k seen (get_or c.args.shown.now i 0) (sym hit ∙ c.request.ensures.value) in
-    record { cases = told_at _ i (sym c.loop-i.invariant.1 ∙ odd_twice seen allowed c.args.shown.now i (omega arith) there) }
+    elim c.then-not-allows.branch [
+      | then-not-allows-via-then-not-allows w ↦
+          let strange = sym c.allows.ensures.value ∙ w.if-not-allows.true in
+          record { cases = told_at _ i (sym c.loop-i.invariant.1 ∙ odd_strange seen allowed shown i (omega arith) strange) }
+      | then-not-allows-via-else-not-allows+then-eq w ↦
+          let hit : w.request.result ≡ Hit = search rules in
+          let there = hit_there c.args.self.k seen (get_or shown i 0) (sym hit ∙ w.request.ensures.value) in
+          record { cases = told_at _ i (sym c.loop-i.invariant.1 ∙ odd_twice seen allowed shown i (omega arith) there) }
+    ]
 
 pub loop-i-preserved : goal.loop-i-preserved
 loop-i-preserved c =

@@ -1,33 +1,25 @@
 use Rattle.std.proofs.Common.{arith}
-use Rattle.std.proofs.lemmas.List.{length-set}
 use Rattle.belady.proofs.Outcomes.{counter_fits, found, pushed, dropped}
 use Rattle.belady.proofs.sieve.Sieve.request.Goals as goal
-
-pub returns-then-at-hits : goal.returns-then-at-hits
-returns-then-at-hits c =
-    record {
-      few = c.requires.few;
-      row = dropped _ _ _ _ _ _ c.requires.row c.requires.within _ c.requires.next _ _ _ _ _ c.sift-at.ensures.after c.requires.some c.requires.few
-          (omega arith) (omega arith) c.if-at-hits.true;
-    }
-
-pub returns-then-at-self : goal.returns-then-at-self
-returns-then-at-self c =
-    record {
-      few = omega arith;
-      row = pushed _ _ _ _ _ _ c.requires.row c.requires.within _ c.requires.next _ _ _ _ _ c.sift-at.ensures.after c.requires.some c.requires.few
-          (omega arith) (omega arith) c.if-at-self.true c.if-at-hits.false;
-    }
+use Rattle.belady.proofs.sieve.Sieve.request.Goals.{in-Some, in-None, in-None+else-self-hits}
 
 pub overflow_add-hits : goal.overflow_add-hits
 overflow_add-hits c =
-    let far = c.sift-at.ensures.after.far in
-    omega (arith, counter_fits _ _ _ _ _ _ c.requires.row c.requires.within c.sift-at.result.at (omega arith))
+    let at = rw c.in-Some.is at c.sift-at.ensures.after in
+    omega (arith, counter_fits _ _ _ _ _ _ c.requires.row c.requires.within c.in-Some.at (omega arith))
 
-pub returns : goal.returns
-returns c =
-    record {
-      few = simp length-set c.requires.few;
-      row = found _ _ _ _ _ _ c.requires.row c.requires.within _ c.requires.next _ _ _ _ _ c.sift-at.ensures.after c.requires.some c.requires.few
-          (omega arith) (omega arith) c.if-at-self.false;
-    }
+pub returns-clause-row : goal.returns-clause-row
+returns-clause-row c =
+    let row = c.requires.row in
+    let after = c.sift-at.ensures.after in
+    elim c.match-at.branch [
+      | in-Some w ↦
+          rw (w.self-is, w.hits-is) (found _ _ _ _ _ _ row c.requires.within _ c.requires.next _ _ _ _ c.requires.some c.requires.few (omega arith) (omega arith)
+          _ (rw w.in-Some.is at after))
+      | in-None w ↦
+          rw (w.self-is, w.hits-is) (pushed _ _ _ _ _ _ row c.requires.within _ c.requires.next _ _ _ _ c.requires.some c.requires.few (omega arith) (omega arith)
+          (rw w.in-None.is at after) w.if-self-hits.true)
+      | in-None+else-self-hits w ↦
+          rw (w.self-is, w.hits-is) (dropped _ _ _ _ _ _ row c.requires.within _ c.requires.next _ _ _ _ c.requires.some c.requires.few (omega arith) (omega arith)
+          (rw w.in-None.is at after) w.if-self-hits.false)
+    ]

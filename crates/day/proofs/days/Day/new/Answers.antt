@@ -1,9 +1,6 @@
-use Rattle.std.proofs.Common.{refl, arith}
+use Rattle.std.proofs.Common.{refl}
 use Rattle.lru_cache.specs.Rows.{first_wide}
 use Rattle.day.proofs.days.Day.new.Goals as goal
-
-pub invariant_of-day-clause-ready : goal.invariant_of-day-clause-ready
-invariant_of-day-clause-ready c = c.empty.ensures.ready 36869 (omega arith)
 
 pub invariant_of-day-clause-small : goal.invariant_of-day-clause-small
 unfolding first_wide

@@ -1,9 +1,11 @@
 -- What is told so far, with the numbers that are left, is the whole axis.
-use Rattle.std.proofs.Common.{◌≡◌, ◌-◌, ◌/◌, ◌++◌, string_bytes}
+use Rattle.std.proofs.Common.{◌/◌, ◌++◌, string_bytes}
 use Rattle.picture.specs.Pictured.{told, places_piece}
+use Rattle.picture.proofs.Joined.{Reached}
 use Rattle.picture.proofs.scales.Scale.tell_places.Given as goal
 
-abbrev pub invariant-loop-i : goal.invariant-loop-i
-invariant-loop-i l =
-    string_bytes l.text ++ told (places_piece l.self.places l.apart) l.i (l.self.places / l.apart - l.i)
-    ≡ string_bytes l.initial.text ++ told (places_piece l.self.places l.apart) 0 (l.self.places / l.apart)
+abbrev pub invariant-loop-c : goal.invariant-loop-c
+invariant-loop-c l =
+    let piece = places_piece l.self.places l.apart in
+    let end = l.self.places / l.apart in
+    Reached piece end l.c l.apart l.apart (string_bytes l.text) (string_bytes l.initial.text ++ told piece 0 end)
