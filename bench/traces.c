@@ -50,11 +50,12 @@ void trace_loop(uint64_t *trace, size_t n, size_t pages) {
     for (size_t i = 0; i < n; i++) trace[i] = i % pages;
 }
 
-/* The cell where the search for a page begins, as crates/recency/specs/Hash.antt has it. */
+/* Which chain a page is in, as crates/recency/specs/Hash.antt has it. */
 static uint64_t home(uint64_t k, uint64_t page) {
-    uint64_t product = page * 0x9e3779b97f4a7c15u;
+    uint64_t product = page / 4096 * 0x9e3779b97f4a7c15u;
     uint64_t mixed = (product ^ product >> 32) * 0xd6e8feb86659fd93u;
-    return (mixed >> 32) * (4 * k) >> 32;
+    uint64_t spread = page % 4096 * 0x9e3779b97f4a7c15u + mixed;
+    return (spread >> 32) * (4 * k) >> 32;
 }
 
 /* Pages that all have one home: what somebody can do who knows the hash. Answers how many were found. */

@@ -1,8 +1,8 @@
 -- A cache row read into its index page by page, and written from it.
-use Rattle.std.proofs.Common.{◌≡◌, ℕ, suc, ◌+◌, ◌-◌, ◌≤◌, true, List, [], ◌∷◌, ◌++◌, length, get_or, take, drop, set, replicate, ap, ◌∙◌, arith}
+use Rattle.std.proofs.Common.{◌≡◌, ℕ, suc, ◌+◌, ◌-◌, ◌<◌, ◌≤◌, true, false, List, [], ◌∷◌, ◌++◌, length, get_or, take, drop, set, replicate, ap, ◌∙◌, arith}
 use borrow.Rule.Slice.PartMut.{put_mid}
 use Rattle.std.proofs.lemmas.List.{take_all, drop-replicate, length-append, length-replicate, length-take, length-drop}
-use Rattle.paging.specs.Lists.{distinct}
+use Rattle.paging.specs.Lists.{has, distinct}
 use Rattle.paging.specs.Lru.{lru}
 use Rattle.paging.proofs.Appends.{distinct_back, distinct_cons}
 use Rattle.paging.proofs.Requests.{lru_free}
@@ -11,15 +11,20 @@ use Rattle.lru_cache.specs.Rows.{cached}
 pub length_cached : (row : List ℕ) (k : ℕ) → get_or row 1 0 ≤ k → 2 + k ≤ length row → length (cached row) ≡ get_or row 1 0
 length_cached row k few long = let a = length-take (get_or row 1 0) (drop 2 row) in let b = length-drop 2 row in omega arith
 
--- the page that stands before those in the index is not among them, and comes in front of them
+-- the page that stands before those in the index is not among them, has a place, and comes in front of them
+pub record Read (k page : ℕ) (pages : List ℕ) : Type 0 where
+  pub room : length pages < k
+  pub absent : has pages page ≡ false
+  pub more : lru k pages page ≡ page ∷ pages
+
 pub read_more :
-    (k : ℕ) (left : List ℕ) (page : ℕ) (pages whole : List ℕ) → left ++ page ∷ pages ≡ whole → distinct whole ≡ true → length whole ≤ k →
-    lru k pages page ≡ page ∷ pages
+    (k : ℕ) (left : List ℕ) (page : ℕ) (pages whole : List ℕ) → left ++ page ∷ pages ≡ whole → distinct whole ≡ true → length whole ≤ k → Read k page pages
 read_more k left page pages whole is once few =
     let apart : distinct (page ∷ pages) ≡ true = distinct_back left (page ∷ pages) (ap distinct is ∙ once) in
     let l = length-append left (page ∷ pages) in
     let m = ap length is in
-    lru_free k page pages (distinct_cons page pages apart).0 (omega arith)
+    let absent = (distinct_cons page pages apart).0 in
+    record { room = omega arith; absent = absent; more = lru_free k page pages absent (omega arith) }
 
 -- the places: the pages, and 0 in the free ones
 pub places_are :

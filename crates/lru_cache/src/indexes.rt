@@ -12,7 +12,7 @@ pub fn open(cache: &[u64], index: &mut [u64], k: usize, n: usize)
 {
     recency::clear(index, k);
     for &page in cache[2..2 + n].iter().rev() {
-        recency::request(index, k, page);
+        recency::fill(index, k, page);
     }
 }
 

@@ -1,61 +1,100 @@
--- What an edit of the table leaves as it was.
-use Rattle.std.proofs.Common.{◌≡◌, ℕ, ◌+◌, ◌*◌, ◌<◌, ◌≤◌, ◌≢◌, ◌⊎◌, List, length, get_or, drop, set, refl, ◌∙◌, ⊎_elim, arith}
+-- What an edit of the ring leaves of the chains and the pages, and what one of the chains leaves of the ring and the pages.
+use Rattle.std.proofs.Common.{◌≡◌, ℕ, ◌+◌, ◌*◌, ◌<◌, ◌≤◌, ◌⊎◌, List, length, get_or, drop, set, refl, ◌∙◌, ⊎_elim, arith}
 use Rattle.std.proofs.lemmas.List.{get_or-set_other, length-set, drop-set-lt}
-use Rattle.recency.specs.Row.{count, used, held, cell}
-use Rattle.recency.specs.Sound.{Kept, Sized}
+use Rattle.recency.specs.Row.{count, next, prev, held, behind_at, lead_at}
+use Rattle.recency.specs.Sound.{Sized}
 
-pub kept_refl : (k : ℕ) (row : List ℕ) → Kept k row row
-kept_refl k row = record { same = λ i ne lt. refl; len = refl; beyond = refl }
+-- row' differs from row in numbers that P holds of at most, is as long, and is the same behind 9 k + 5 numbers
+pub record Apart (k : ℕ) (P : ℕ → Type 0) (row row' : List ℕ) : Type 0 where
+  pub same : (i : ℕ) → (P i → ⊥) → get_or row' i 0 ≡ get_or row i 0
+  pub len : length row' ≡ length row
+  pub beyond : drop (9 * k + 5) row' ≡ drop (9 * k + 5) row
 
-pub kept_trans : (k : ℕ) (a b c : List ℕ) → Kept k a b → Kept k b c → Kept k a c
-kept_trans k a b c x y =
+pub apart_trans : (k : ℕ) (P : ℕ → Type 0) (a b c : List ℕ) → Apart k P a b → Apart k P b c → Apart k P a c
+apart_trans k P a b c x y =
     record {
-      same = λ i ne lt. y.same i ne lt ∙ x.same i ne lt;
+      same = λ i other. y.same i other ∙ x.same i other;
       len = y.len ∙ x.len;
       beyond = y.beyond ∙ x.beyond;
     }
 
-pub kept_set : (k : ℕ) (row : List ℕ) (i v : ℕ) → (i ≡ 1) ⊎ (5 + 3 * k ≤ i) → i < 9 * k + 5 → Kept k row (set row i v)
-kept_set k row i v where-is below =
+pub apart_set : (k : ℕ) (P : ℕ → Type 0) (row : List ℕ) (i v : ℕ) → P i → i < 9 * k + 5 → Apart k P row (set row i v)
+apart_set k P row i v p below =
     record {
-      same = λ j ne lt. let d : j ≢ i = ⊎_elim (λ e q. ne (q ∙ e)) (λ le q. omega arith) where-is in get_or-set_other row i j v 0 d;
+      same = λ j other. get_or-set_other row i j v 0 (λ e. other (rw e p));
       len = length-set row i v;
       beyond = drop-set-lt (9 * k + 5) row i v below;
     }
 
-pub kept_count : (k : ℕ) (row row' : List ℕ) → Kept k row row' → count row' ≡ count row
-kept_count k row row' kept = kept.same 0 (λ e. omega arith) (omega arith)
+-- number i is the one that stands at o among the five of a slot from `low` to k
+pub record Of (k low o i : ℕ) : Type 0 where
+  pub slot : ℕ
+  pub above : low ≤ slot
+  pub inside : slot ≤ k
+  pub is : i ≡ 5 * slot + o
 
-pub kept_sized : (k : ℕ) (row row' : List ℕ) → Kept k row row' → Sized k row → used row' ≤ 2 * k → Sized k row'
-kept_sized k row row' kept sized spent =
-    let c = kept_count k row row' kept in
-    let l = kept.len in
-    record { low = sized.low; high = sized.high; long = omega arith; few = omega arith; spent = spent }
+-- the links of the ring
+abbrev pub Ring : ℕ → ℕ → Type 0
+Ring k i = Of k 0 0 i ⊎ Of k 0 1 i
 
--- row' differs from row in nothing but links
-pub record Relinked (k : ℕ) (row row' : List ℕ) : Type 0 where
-  pub heads : (i : ℕ) → i < 2 → get_or row' i 0 ≡ get_or row i 0
-  pub pages : (t : ℕ) → held row' t ≡ held row t
-  pub cells : (p : ℕ) → cell k row' p ≡ cell k row p
-  pub len : length row' ≡ length row
-  pub beyond : drop (9 * k + 5) row' ≡ drop (9 * k + 5) row
+-- the numbers that may lead to a slot of a chain: where chains begin, and what is behind a slot
+abbrev pub Leads : ℕ → ℕ → Type 0
+Leads k i = ((5 * k + 5 ≤ i) × (i < 9 * k + 5)) ⊎ Of k 1 3 i
 
-pub relinked_trans : (k : ℕ) (a b c : List ℕ) → Relinked k a b → Relinked k b c → Relinked k a c
-relinked_trans k a b c x y =
-    record {
-      heads = λ i lt. y.heads i lt ∙ x.heads i lt;
-      pages = λ t. y.pages t ∙ x.pages t;
-      cells = λ p. y.cells p ∙ x.cells p;
-      len = y.len ∙ x.len;
-      beyond = y.beyond ∙ x.beyond;
-    }
+pub leads_below : (k i : ℕ) → Leads k i → i < 9 * k + 5
+leads_below k i leads = ⊎_elim (λ x. x.1) (λ x. omega (arith, x.is, x.inside)) leads
 
-pub relinked_set : (k : ℕ) (row : List ℕ) (i t v : ℕ) → t ≤ k → (i ≡ 2 + 3 * t) ⊎ (i ≡ 3 + 3 * t) → Relinked k row (set row i v)
-relinked_set k row i t v le link =
-    record {
-      heads = λ j lt. get_or-set_other row i j v 0 (λ e. ⊎_elim (λ q. omega arith) (λ q. omega arith) link);
-      pages = λ s. get_or-set_other row i (4 + 3 * s) v 0 (λ e. ⊎_elim (λ q. omega arith) (λ q. omega arith) link);
-      cells = λ p. get_or-set_other row i (5 + 3 * k + p) v 0 (λ e. ⊎_elim (λ q. omega arith) (λ q. omega arith) link);
-      len = length-set row i v;
-      beyond = drop-set-lt (9 * k + 5) row i v (⊎_elim (λ q. omega arith) (λ q. omega arith) link);
-    }
+-- these, and the numbers that say where they stand
+abbrev pub Chains : ℕ → ℕ → Type 0
+Chains k i = Leads k i ⊎ Of k 0 4 i
+
+-- the links of the ring alone have changed
+module _ (k : ℕ) (row row' : List ℕ) (apart : Apart k (Ring k) row row') where
+  relinked : (o t : ℕ) → 2 ≤ o → o < 5 → get_or row' (5 * t + o) 0 ≡ get_or row (5 * t + o) 0
+  relinked o t low high = apart.same (5 * t + o) (⊎_elim (λ x. omega (arith, x.is)) (λ x. omega (arith, x.is)))
+
+  pub relinked_held : (t : ℕ) → held row' t ≡ held row t
+  relinked_held t = relinked 2 t (omega arith) (omega arith)
+
+  pub relinked_behind : (t : ℕ) → get_or row' (behind_at t) 0 ≡ get_or row (behind_at t) 0
+  relinked_behind t = relinked 3 t (omega arith) (omega arith)
+
+  pub relinked_lead : (t : ℕ) → get_or row' (lead_at t) 0 ≡ get_or row (lead_at t) 0
+  relinked_lead t = relinked 4 t (omega arith) (omega arith)
+
+  pub relinked_count : count row' ≡ count row
+  relinked_count = relinked_behind 0
+
+  pub relinked_door : (i : ℕ) → 5 * k + 5 ≤ i → get_or row' i 0 ≡ get_or row i 0
+  relinked_door i le = apart.same i (⊎_elim (λ x. omega (arith, x.is, x.inside)) (λ x. omega (arith, x.is, x.inside)))
+
+  pub relinked_sized : Sized k row → Sized k row'
+  relinked_sized sized =
+      let c = relinked_count in
+      let l = apart.len in
+      record { low = sized.low; high = sized.high; long = omega (arith, sized.long); few = omega (arith, sized.few) }
+
+-- the chains alone have changed
+module _ (k : ℕ) (row row' : List ℕ) (apart : Apart k (Chains k) row row') where
+  rechained : (i o t : ℕ) → i ≡ 5 * t + o → o < 3 → t ≤ k → get_or row' i 0 ≡ get_or row i 0
+  rechained i o t e small le =
+      apart.same i (⊎_elim (⊎_elim (λ x. omega (arith, x.0)) (λ x. omega (arith, x.is))) (λ x. omega (arith, x.is)))
+
+  pub rechained_next : (t : ℕ) → t ≤ k → next row' t ≡ next row t
+  rechained_next t = rechained (5 * t) 0 t (omega arith) (omega arith)
+
+  pub rechained_prev : (t : ℕ) → t ≤ k → prev row' t ≡ prev row t
+  rechained_prev t = rechained (5 * t + 1) 1 t refl (omega arith)
+
+  pub rechained_held : (t : ℕ) → t ≤ k → held row' t ≡ held row t
+  rechained_held t = rechained (5 * t + 2) 2 t refl (omega arith)
+
+  pub rechained_count : count row' ≡ count row
+  rechained_count =
+      apart.same 3 (⊎_elim (⊎_elim (λ x. omega (arith, x.0)) (λ x. omega (arith, x.is, x.above))) (λ x. omega (arith, x.is)))
+
+  pub rechained_sized : Sized k row → Sized k row'
+  rechained_sized sized =
+      let c = rechained_count in
+      let l = apart.len in
+      record { low = sized.low; high = sized.high; long = omega (arith, sized.long); few = omega (arith, sized.few) }

@@ -1,4 +1,4 @@
--- The ring of slots: what taking a slot out and putting one in front do to a chain of links.
+-- The ring of slots: what taking a slot out and putting one in front do to its links.
 use Rattle.std.proofs.Common.{◌≡◌, ℕ, zero, suc, ◌+◌, ◌<◌, true, false, ◌≢◌, List, [], ◌∷◌, ◌++◌, length, get_or, sym, refl, ap, ◌∙◌, append-nil, add-one, arith}
 use Rattle.std.proofs.lemmas.Bool.Decides.{nat_tests}
 use Rattle.paging.specs.Lists.{has, distinct}

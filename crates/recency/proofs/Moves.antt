@@ -1,12 +1,12 @@
 -- The row when a slot is taken out of the ring, and when one is put in front.
-use Rattle.std.proofs.Common.{◌≡◌, ℕ, ◌+◌, ◌*◌, ◌≤◌, true, false, ◌≢◌, List, ◌∷◌, ◌++◌, length, set, sym, refl, ◌∙◌, inl, inr, arith}
+use Rattle.std.proofs.Common.{◌≡◌, ℕ, ◌+◌, ◌*◌, ◌<◌, ◌≤◌, true, false, ◌≢◌, List, ◌∷◌, ◌++◌, length, get_or, set, sym, refl, ◌∙◌, inl, inr, arith}
 use Rattle.std.proofs.lemmas.Bool.Decides.{nat_tests}
 use Rattle.std.proofs.lemmas.List.{get_or-set_same, get_or-set_other, length-set}
 use Rattle.paging.specs.Lists.{has, distinct}
 use Rattle.paging.proofs.Appends.{has_cut, has_first, has_later, has_tail, has_apart, distinct_cut}
 use Rattle.recency.specs.Row.{next, prev, unlinked, pushed}
 use Rattle.recency.specs.Sound.{Linked}
-use Rattle.recency.proofs.Frames.{Relinked, relinked_trans, relinked_set}
+use Rattle.recency.proofs.Frames.{Apart, apart_trans, apart_set, Ring, relinked_door}
 use Rattle.recency.proofs.Links.{chain_unlink, chain_push, chain_next, chain_prev}
 
 -- what stands in order lies within n, and so does slot 0
@@ -22,6 +22,13 @@ pub linked_prev : (n : ℕ) (row order : List ℕ) → Linked n row order → (s
 linked_prev n row order linked s there =
     linked_end n row order linked (prev row s) (chain_prev (next row) (prev row) order 0 0 s linked.chain there)
 
+module _ (k : ℕ) where
+  set_next : (row : List ℕ) (t v : ℕ) → t ≤ k → Apart k (Ring k) row (set row (5 * t) v)
+  set_next row t v le = apart_set k (Ring k) row (5 * t) v (inl (record { slot = t; above = omega arith; inside = le; is = omega arith })) (omega arith)
+
+  set_prev : (row : List ℕ) (t v : ℕ) → t ≤ k → Apart k (Ring k) row (set row (5 * t + 1) v)
+  set_prev row t v le = apart_set k (Ring k) row (5 * t + 1) v (inr (record { slot = t; above = omega arith; inside = le; is = refl })) (omega arith)
+
 module _ (k : ℕ) (row : List ℕ) (long : 9 * k + 5 ≤ length row) (s : ℕ) (inside : s ≤ k) where
   module _ (after : next row s ≤ k) (before : prev row s ≤ k) where
     next_unlinked : next (unlinked row s) (prev row s) ≡ next row s
@@ -36,21 +43,19 @@ module _ (k : ℕ) (row : List ℕ) (long : 9 * k + 5 ≤ length row) (s : ℕ) 
     prev_unlinked_else : (i : ℕ) → i ≢ next row s → prev (unlinked row s) i ≡ prev row i
     prev_unlinked_else i ne = grind (arith, get_or-set_same, get_or-set_other, length-set)
 
-    pub unlinked_relinked : Relinked k row (unlinked row s)
-    unlinked_relinked =
-        relinked_trans k row (set row (2 + 3 * prev row s) (next row s)) (unlinked row s)
-        (relinked_set k row (2 + 3 * prev row s) (prev row s) (next row s) before (inl refl))
-        (relinked_set k (set row (2 + 3 * prev row s) (next row s)) (3 + 3 * next row s) (next row s) (prev row s) after (inr refl))
+    pub unlinked_apart : Apart k (Ring k) row (unlinked row s)
+    unlinked_apart =
+        apart_trans k (Ring k) row (set row (5 * prev row s) (next row s)) (unlinked row s) (set_next k row (prev row s) (next row s) before)
+        (set_prev k (set row (5 * prev row s) (next row s)) (next row s) (prev row s) after)
 
-  pub pushed_relinked : next row 0 ≤ k → Relinked k row (pushed row s)
-  pushed_relinked head =
-      let a = set row (2 + 3 * s) (next row 0) in
-      let b = set a (3 + 3 * s) 0 in
-      let c = set b (3 + 3 * next row 0) s in
-      relinked_trans k row a (pushed row s) (relinked_set k row (2 + 3 * s) s (next row 0) inside (inl refl))
-      (relinked_trans k a b (pushed row s) (relinked_set k a (3 + 3 * s) s 0 inside (inr refl))
-      (relinked_trans k b c (pushed row s) (relinked_set k b (3 + 3 * next row 0) (next row 0) s head (inr refl))
-      (relinked_set k c 2 0 s (omega arith) (inl refl))))
+  pub pushed_apart : next row 0 ≤ k → Apart k (Ring k) row (pushed row s)
+  pushed_apart head =
+      let a = set row (5 * s) (next row 0) in
+      let b = set a (5 * s + 1) 0 in
+      let c = set b (5 * next row 0 + 1) s in
+      apart_trans k (Ring k) row a (pushed row s) (set_next k row s (next row 0) inside)
+      (apart_trans k (Ring k) a b (pushed row s) (set_prev k a s 0 inside)
+      (apart_trans k (Ring k) b c (pushed row s) (set_prev k b (next row 0) s head) (set_next k c 0 s (omega arith))))
 
   module _ (head : next row 0 ≤ k) (some : s ≢ 0) (new : next row 0 ≢ s) where
     next_pushed_0 : next (pushed row s) 0 ≡ s
@@ -70,6 +75,27 @@ module _ (k : ℕ) (row : List ℕ) (long : 9 * k + 5 ≤ length row) (s : ℕ) 
 
     prev_pushed_else : (i : ℕ) → i ≢ s → i ≢ next row 0 → prev (pushed row s) i ≡ prev row i
     prev_pushed_else i ns nh = grind (arith, get_or-set_same, get_or-set_other, length-set)
+
+-- a page's coming into a slot, which is put in front, leaves where the chains begin
+put_door :
+    (k : ℕ) (row : List ℕ) (s page i : ℕ) → 9 * k + 5 ≤ length row → s ≤ k → next row 0 ≤ k → 5 * k + 5 ≤ i →
+    get_or (pushed (set row (5 * s + 2) page) s) i 0 ≡ get_or row i 0
+put_door k row s page i long inside head door =
+    let written = set row (5 * s + 2) page in
+    let first = get_or-set_other row (5 * s + 2) 0 page 0 (λ e. omega arith) in
+    let l = length-set row (5 * s + 2) page in
+    relinked_door k written (pushed written s) (pushed_apart k written (omega arith) s inside (omega arith)) i door
+    ∙ get_or-set_other row (5 * s + 2) i page 0 (λ e. omega arith)
+
+pub put_first :
+    (k : ℕ) (row : List ℕ) (s page i : ℕ) → 9 * k + 5 ≤ length row → s ≤ k → next row 0 ≤ k → 5 * k + 5 ≤ i → get_or row i 0 ≤ k →
+    5 * get_or (pushed (set row (5 * s + 2) page) s) i 0 + 4 < length (pushed (set row (5 * s + 2) page) s)
+put_first k row s page i long inside head door few =
+    let written = set row (5 * s + 2) page in
+    let first = get_or-set_other row (5 * s + 2) 0 page 0 (λ e. omega arith) in
+    let l = length-set row (5 * s + 2) page in
+    let l' = (pushed_apart k written (omega arith) s inside (omega arith)).len in
+    omega (arith, put_door k row s page i long inside head door)
 
 pushed_once : (z : ℕ) (xs : List ℕ) (s : ℕ) → has (z ∷ xs) s ≡ false → distinct (z ∷ xs) ≡ true → distinct (z ∷ s ∷ xs) ≡ true
 unfolding has distinct

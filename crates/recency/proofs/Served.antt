@@ -1,16 +1,20 @@
 -- The row after a request: what makes it sound again, and what it then holds.
-use Rattle.std.proofs.Common.{◌≡◌, ℕ, ◌+◌, ◌*◌, ◌≤◌, true, false, List, ◌∷◌, ◌++◌, map, length, drop, sym, ap, ◌∙◌, subst, arith}
-use Rattle.std.proofs.lemmas.List.{length-append, map-append}
+use Rattle.std.proofs.Common.{◌≡◌, ℕ, suc, ◌+◌, ◌*◌, ◌<◌, ◌≤◌, true, false, List, ◌∷◌, map, length, get_or, drop, set, ap, ◌∙◌, arith}
+use Rattle.std.proofs.lemmas.List.{get_or-set_same, get_or-set_other, length-set, drop-set-lt}
 use Rattle.paging.specs.Lists.{has, distinct}
 use Rattle.paging.specs.Lru.{lru}
-use Rattle.paging.proofs.Appends.{has_cut, has_first, has_later, distinct_cut, Cut, cut_at}
-use Rattle.paging.proofs.Requests.{lru_there, lru_distinct}
-use Rattle.recency.specs.Row.{count, used, next, prev, held, pages, unlinked, pushed}
-use Rattle.recency.specs.Sound.{Linked, Table, Finds, Sized, Sound}
-use Rattle.recency.proofs.Cells.{table_same}
-use Rattle.recency.proofs.Frames.{Relinked, relinked_trans}
-use Rattle.recency.proofs.Moves.{linked_next, linked_prev, linked_unlinked, linked_pushed, unlinked_relinked, pushed_relinked}
-use Rattle.recency.proofs.Pages.{pages_linked, pages_sound, length_pages, map_same}
+use Rattle.paging.proofs.Appends.{has_first, has_apart, has_tail, distinct_cons}
+use Rattle.paging.proofs.Requests.{lru_distinct}
+use Rattle.recency.specs.Hash.{home, spread}
+use Rattle.recency.specs.Row.{count, next, prev, held, home_of, door, pages, pushed, entered, admitted}
+use Rattle.recency.specs.Sound.{Linked, Finds, Sized, Sound}
+use Rattle.recency.proofs.Chained.{finds_same, door_near}
+use Rattle.recency.proofs.Entered.{finds_entered, in_apart}
+use Rattle.recency.proofs.Frames.{Apart, Ring, Chains, relinked_held, relinked_behind, relinked_lead, relinked_door, relinked_count, relinked_sized, rechained_next, rechained_prev, rechained_held, rechained_count, rechained_sized}
+use Rattle.recency.proofs.Led.{Slots}
+use Rattle.recency.proofs.Links.{chain_same}
+use Rattle.recency.proofs.Moves.{linked_end, linked_next, linked_pushed, pushed_apart}
+use Rattle.recency.proofs.Pages.{pages_linked, pages_sound, map_same, linked_low}
 
 -- what a request for page leaves of the row
 pub record Served (k : ℕ) (row : List ℕ) (page : ℕ) (row' : List ℕ) : Type 0 where
@@ -21,139 +25,155 @@ pub record Served (k : ℕ) (row : List ℕ) (page : ℕ) (row' : List ℕ) : Ty
 pub pages_once : (k : ℕ) (row : List ℕ) → Sound k row → distinct (pages row) ≡ true
 pages_once k row sound = rw (pages_sound k row sound) sound.once
 
-pub served :
-    (k : ℕ) (row : List ℕ) (page : ℕ) (row' order : List ℕ) → Sound k row → Sized k row' → Linked (count row') row' order → length order ≡ count row' →
-    ((s : ℕ) → 1 ≤ s → s ≤ count row' → has order s ≡ true) → Finds k row' → map (held row') order ≡ lru k (pages row) page →
-    drop (9 * k + 5) row' ≡ drop (9 * k + 5) row → Served k row page row'
-served k row page row' order sound sized linked many all table holds beyond =
+pub home_below : (k page : ℕ) → 1 ≤ k → k ≤ 4096 → home k page < 4 * k
+unfolding home spread
+home_below k page low high = grind (arith)
+
+-- a ring whose slots have the same links
+pub linked_same :
+    (n : ℕ) (row row' order : List ℕ) → ((t : ℕ) → t ≤ n → next row' t ≡ next row t) → ((t : ℕ) → t ≤ n → prev row' t ≡ prev row t) →
+    Linked n row order → Linked n row' order
+linked_same n row row' order nexts prevs linked =
     record {
-      sound = record {
-        sized = sized;
-        order = order;
-        linked = linked;
-        many = many;
-        all = all;
-        once = rw holds (lru_distinct k page (pages row) (pages_once k row sound));
-        table = table;
-      };
-      after = pages_linked (count row') row' order linked many ∙ holds;
-      beyond = beyond;
+      chain = chain_same (next row) (prev row) (next row') (prev row') order 0 0
+          (λ t h. nexts t (linked_end n row order linked t h)) (λ t h. prevs t (linked.within t h)) (prevs 0 (omega arith)) linked.chain;
+      once = linked.once;
+      within = linked.within;
     }
 
--- the links alone have changed
-module _ (k : ℕ) (row row' : List ℕ) (links : Relinked k row row') where
-  pub relinked_count : count row' ≡ count row
-  relinked_count = links.heads 0 (omega arith)
-
-  pub relinked_used : used row' ≡ used row
-  relinked_used = links.heads 1 (omega arith)
-
-  pub relinked_sized : Sized k row → Sized k row'
-  relinked_sized sized =
-      let c = relinked_count in
-      let u = relinked_used in
-      let l = links.len in
-      record { low = sized.low; high = sized.high; long = omega arith; few = omega arith; spent = omega arith }
-
-  pub relinked_table : (P : ℕ → Type 0) → Table k row P → Table k row' P
-  relinked_table P table =
-      let c = relinked_count in
-      table_same k row row' P P (omega arith) relinked_used (λ p lt. links.cells p) (λ t low high q. (omega arith, q, links.pages t)) table
-
--- slot s of the ring is taken out
-pub record Taken (k : ℕ) (row : List ℕ) (s : ℕ) (rest : List ℕ) : Type 0 where
-  pub inside : s ≤ k
-  pub after : next row s ≤ k
-  pub before : prev row s ≤ k
-  pub links : Relinked k row (unlinked row s)
-  pub linked : Linked (count row) (unlinked row s) rest
+-- base is row made ready for a page in slot s: the slot is neither in the ring nor in a chain, and all others are those of rest
+pub record Ready (k : ℕ) (row base : List ℕ) (s : ℕ) (rest : List ℕ) : Type 0 where
+  pub sized : Sized k base
+  pub linked : Linked (count base) base rest
+  pub finds : Finds k base rest
   pub absent : has (0 ∷ rest) s ≡ false
-  pub head : next (unlinked row s) 0 ≤ k
+  pub low : 1 ≤ s
+  pub high : s ≤ count base
+  pub many : suc (length rest) ≡ count base
+  pub all : (t : ℕ) → 1 ≤ t → t ≤ count base → has (s ∷ rest) t ≡ true
+  pub pages : (t : ℕ) → has rest t ≡ true → held base t ≡ held row t
+  pub beyond : drop (9 * k + 5) base ≡ drop (9 * k + 5) row
 
-pub taken :
-    (k : ℕ) (row : List ℕ) (xs : List ℕ) (s : ℕ) (ys : List ℕ) → Sized k row → Linked (count row) row (xs ++ s ∷ ys) → Taken k row s (xs ++ ys)
-taken k row xs s ys sized linked =
-    let n = count row in
-    let here : has (xs ++ s ∷ ys) s ≡ true = has_cut xs s ys s ∙ has_first s (xs ++ ys) in
-    let there = has_later 0 (xs ++ s ∷ ys) s here in
-    let in-n = linked.within s here in
-    let next-n = linked_next n row (xs ++ s ∷ ys) linked s there in
-    let prev-n = linked_prev n row (xs ++ s ∷ ys) linked s there in
-    let few = sized.few in
-    let inside : s ≤ k = omega arith in
-    let after : next row s ≤ k = omega arith in
-    let before : prev row s ≤ k = omega arith in
-    let out = linked_unlinked k n row sized.long few xs s ys linked in
-    let head-n = linked_next n (unlinked row s) (xs ++ ys) out 0 (has_first 0 (xs ++ ys)) in
-    record {
-      inside = inside;
-      after = after;
-      before = before;
-      links = unlinked_relinked k row sized.long s inside after before;
-      linked = out;
-      absent = (distinct_cut s ys (0 ∷ xs) linked.once).1;
-      head = omega arith;
-    }
+module _ (k : ℕ) (row base : List ℕ) (s : ℕ) (rest : List ℕ) (page : ℕ) (ready : Ready k row base s rest) where
+  abbrev written : List ℕ
+  written = set base (5 * s + 2) page
 
--- slot s, which is not in the ring, is put in front
-pub record Put (k n : ℕ) (row : List ℕ) (s : ℕ) (rest : List ℕ) : Type 0 where
-  pub links : Relinked k row (pushed row s)
-  pub linked : Linked n (pushed row s) (s ∷ rest)
+  abbrev put : List ℕ
+  put = pushed written s
 
-pub put : (k n : ℕ) (row : List ℕ) (s : ℕ) (rest : List ℕ) → 9 * k + 5 ≤ length row → n ≤ k → Linked n row rest → has (0 ∷ rest) s ≡ false → s ≤ n → Put k n row s rest
-put k n row s rest long few linked absent le =
-    let inside : s ≤ k = omega arith in
-    let h = linked_next n row rest linked 0 (has_first 0 rest) in
-    let head : next row 0 ≤ k = omega arith in
-    record {
-      links = pushed_relinked k row long s inside head;
-      linked = linked_pushed k n row long few rest s linked absent le;
-    }
+  written_count : count written ≡ count base
+  written_count = get_or-set_other base (5 * s + 2) 3 page 0 (λ e. omega arith)
 
--- a hit: the slot of the page is taken out and put in front
-module _ (k : ℕ) (row : List ℕ) (sound : Sound k row) (s : ℕ) (low : 1 ≤ s) (high : s ≤ count row) where
-  abbrev cut : Cut sound.order s
-  cut = cut_at sound.order s (sound.all s low high)
+  written_long : 9 * k + 5 ≤ length written
+  written_long = omega (arith, length-set base (5 * s + 2) page, ready.sized.long)
 
-  abbrev rest : List ℕ
-  rest = cut.front ++ cut.back
+  written_linked : Linked (count written) written rest
+  written_linked =
+      rw written_count
+      (linked_same (count base) base written rest (λ t _. get_or-set_other base (5 * s + 2) (5 * t) page 0 (λ e. omega arith))
+      (λ t _. get_or-set_other base (5 * s + 2) (5 * t + 1) page 0 (λ e. omega arith)) ready.linked)
 
-  pub hit_taken : Taken k row s rest
-  hit_taken = taken k row cut.front s cut.back sound.sized (rw cut.joins at sound.linked)
+  pub inside : s ≤ k
+  inside = omega (arith, ready.high, ready.sized.few)
 
-  hit_put : Put k (count row) (unlinked row s) s rest
-  hit_put =
-      let t = hit_taken in
-      let l = t.links.len in
-      let long = sound.sized.long in
-      put k (count row) (unlinked row s) s rest (omega arith) sound.sized.few t.linked t.absent high
+  head : next written 0 ≤ k
+  head = omega (arith, linked_next (count written) written rest written_linked 0 (has_first 0 rest), written_count, ready.sized.few)
 
-  hit_links : Relinked k row (pushed (unlinked row s) s)
-  hit_links = relinked_trans k row (unlinked row s) (pushed (unlinked row s) s) hit_taken.links hit_put.links
+  put_apart : Apart k (Ring k) written put
+  put_apart = pushed_apart k written written_long s inside head
 
-  -- the pages, with the one of slot s in front
-  hit_pages : map (held row) (s ∷ rest) ≡ lru k (pages row) (held row s)
-  hit_pages =
-      let front = map (held row) cut.front in
-      let back = map (held row) cut.back in
-      let all : pages row ≡ front ++ held row s ∷ back =
-      pages_sound k row sound ∙ ap (map (held row)) cut.joins ∙ map-append (held row) cut.front (s ∷ cut.back) in
-      let once : distinct (front ++ held row s ∷ back) ≡ true = ap distinct (sym all) ∙ pages_once k row sound in
-      let many = length_pages k row sound in
-      let few = sound.sized.few in
-      let short : length (front ++ held row s ∷ back) ≤ k = omega (arith, ap length all) in
-      rw (all, lru_there k (held row s) front back once short, map-append (held row) cut.front cut.back)
+  slots : Slots k rest
+  slots t there =
+      (linked_low (count base) base rest ready.linked t there, omega (arith, ready.linked.within t there, ready.sized.few))
 
-  pub hit_served : Served k row (held row s) (pushed (unlinked row s) s)
-  hit_served =
-      let row' = pushed (unlinked row s) s in
-      let c = relinked_count k row row' hit_links in
-      let m = length-append cut.front cut.back in
-      let m' = length-append cut.front (s ∷ cut.back) in
-      let many = sound.many in
-      let j = ap length cut.joins in
-      served k row (held row s) row' (s ∷ rest) sound (relinked_sized k row row' hit_links sound.sized)
-      (subst (λ n. Linked n row' (s ∷ rest)) (sym c) hit_put.linked) (omega arith)
-      (λ t tlow thigh. sym (has_cut cut.front s cut.back t) ∙ ap (λ (xs : List ℕ). has xs t) (sym cut.joins) ∙ sound.all t tlow (omega arith))
-      (relinked_table k row row' hit_links (λ _. Unit {0}) sound.table)
-      (map_same (held row') (held row) (s ∷ rest) (λ t _. hit_links.pages t) ∙ hit_pages) hit_links.beyond
+  rest_absent : has rest s ≡ false
+  rest_absent = (has_tail 0 rest s ready.absent).1
+
+  pub base_head : next base 0 ≤ k
+  base_head = omega (arith, linked_next (count base) base rest ready.linked 0 (has_first 0 rest), ready.sized.few)
+
+  pub base_first : get_or base (door k (home k page)) 0 ≤ k
+  base_first = door_near k base rest (home k page) slots ready.finds (home_below k page ready.sized.low ready.sized.high)
+
+  put_held : held put s ≡ page
+  put_held = relinked_held k written put put_apart s ∙ get_or-set_same base (5 * s + 2) page 0 (omega (arith, inside, ready.sized.long))
+
+  put_finds : Finds k put rest
+  put_finds =
+      finds_same k written put rest (λ t _. relinked_held k written put put_apart t)
+      (λ t _. (relinked_behind k written put put_apart t, relinked_lead k written put put_apart t)) (relinked_door k written put put_apart)
+      (finds_same k base written rest
+      (λ t there. get_or-set_other base (5 * s + 2) (5 * t + 2) page 0 (λ e. has_apart rest t s there rest_absent (omega arith)))
+      (λ t _. (get_or-set_other base (5 * s + 2) (5 * t + 3) page 0 (λ e. omega arith), get_or-set_other base (5 * s + 2) (5 * t + 4) page 0 (λ e. omega arith)))
+      (λ i le. get_or-set_other base (5 * s + 2) i page 0 (λ e. omega (arith, inside))) ready.finds)
+
+  put_long : 9 * k + 5 ≤ length put
+  put_long = omega (arith, put_apart.len, written_long)
+
+  put_below : home_of k put s < 4 * k
+  put_below = home_below k (held put s) ready.sized.low ready.sized.high
+
+  abbrev after : List ℕ
+  after = entered put (door k (home_of k put s)) s
+
+  pub after_is : after ≡ admitted k base s page
+  after_is = ap (λ (p : ℕ). entered put (door k (home k p)) s) put_held
+
+  after_finds : Finds k after (s ∷ rest)
+  after_finds =
+      finds_entered k put put_long rest s ready.low inside slots (distinct_cons 0 rest ready.linked.once).1 rest_absent put_finds put_below
+
+  after_apart : Apart k (Chains k) put after
+  after_apart = in_apart k put put_long rest s ready.low inside slots (distinct_cons 0 rest ready.linked.once).1 rest_absent put_finds put_below
+
+  after_count : count after ≡ count base
+  after_count = rechained_count k put after after_apart ∙ relinked_count k written put put_apart ∙ written_count
+
+  after_sized : Sized k after
+  after_sized =
+      rechained_sized k put after after_apart
+      (relinked_sized k written put put_apart
+      (record { low = ready.sized.low; high = ready.sized.high; long = written_long; few = omega (arith, written_count, ready.sized.few) }))
+
+  after_linked : Linked (count after) after (s ∷ rest)
+  after_linked =
+      rw after_count
+      (linked_same (count base) put after (s ∷ rest)
+      (λ t le. rechained_next k put after after_apart t (omega (arith, ready.sized.few)))
+      (λ t le. rechained_prev k put after after_apart t (omega (arith, ready.sized.few)))
+      (linked_pushed k (count base) written written_long ready.sized.few rest s (rw written_count at written_linked) ready.absent ready.high))
+
+  after_held : (t : ℕ) → t ≤ k → held after t ≡ held written t
+  after_held t le = rechained_held k put after after_apart t le ∙ relinked_held k written put put_apart t
+
+  after_pages : map (held after) (s ∷ rest) ≡ page ∷ map (held row) rest
+  after_pages =
+      let own : held after s ≡ page = rechained_held k put after after_apart s inside ∙ put_held in
+      let others = map_same (held after) (held row) rest
+      (λ t there. after_held t (slots t there).1
+      ∙ get_or-set_other base (5 * s + 2) (5 * t + 2) page 0 (λ e. has_apart rest t s there rest_absent (omega arith)) ∙ ready.pages t there) in
+      cc
+
+  after_beyond : drop (9 * k + 5) after ≡ drop (9 * k + 5) row
+  after_beyond =
+      after_apart.beyond ∙ put_apart.beyond ∙ drop-set-lt (9 * k + 5) base (5 * s + 2) page (omega (arith, inside)) ∙ ready.beyond
+
+  -- what the row then is, where its pages are those after the request
+  pub served : Sound k row → page ∷ map (held row) rest ≡ lru k (pages row) page → Served k row page (admitted k base s page)
+  served sound holds =
+      let c = after_count in
+      let order = after_pages ∙ holds in
+      rw (← after_is)
+      record {
+        sound = record {
+          sized = after_sized;
+          order = s ∷ rest;
+          linked = after_linked;
+          many = omega (arith, ready.many);
+          all = λ t low high. ready.all t low (omega arith);
+          once = rw order (lru_distinct k page (pages row) (pages_once k row sound));
+          finds = after_finds;
+        };
+        after = pages_linked (count after) after (s ∷ rest) after_linked (omega (arith, ready.many)) ∙ order;
+        beyond = after_beyond;
+      }

@@ -1,6 +1,7 @@
-// How many pages a row is for, and how long it is. It has two numbers (how many slots hold a page, how many cells were filled since the
-// table was last empty), then three for each slot from 0 on (the slot used just before it, the one used just after it, its page), then the
-// cells.
+// How many pages a row is for, and how long it is. It has five numbers for each slot from 0 on: the slot used just before it, the one used just
+// after it, its page, the slot behind it in its chain, and where the number stands that leads to it; and then where each of the 4 * k chains
+// begins. Slot 0 stands at both ends of the ring and behind every chain: its page is the one that is looked for, its fourth number says how
+// many slots hold a page, and its fifth is written and never read.
 ghost use Rattle.std.specs.Prelude.{◌≡◌, ◌+◌, ◌*◌, ◌<◌, ◌≤◌, ◌⊎◌, MatchOption};
 ghost use Rattle.recency.specs.Row.{length_for};
 

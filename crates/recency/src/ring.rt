@@ -8,21 +8,21 @@ pub(crate) fn unlink(row: &mut [u64], slot: usize)
     requires linked { Within row.old slot }
     ensures after { row.new ≡ unlinked row.old slot }
 {
-    let after = row[2 + 3 * slot];
-    let before = row[3 + 3 * slot];
-    row[2 + 3 * before as usize] = after;
-    row[3 + 3 * after as usize] = before;
+    let after = row[5 * slot];
+    let before = row[5 * slot + 1];
+    row[5 * before as usize] = after;
+    row[5 * after as usize + 1] = before;
 }
 
 // Puts a slot in front, as the one used last.
 pub(crate) fn push(row: &mut [u64], slot: usize)
-    requires slot_within { 4 + 3 * slot < length row.old }
-    requires head_within { 4 + 3 * next row.old 0 < length row.old }
+    requires slot_within { 5 * slot + 4 < length row.old }
+    requires head_within { 5 * next row.old 0 + 4 < length row.old }
     ensures after { row.new ≡ pushed row.old slot }
 {
-    let head = row[2];
-    row[2 + 3 * slot] = head;
-    row[3 + 3 * slot] = 0;
-    row[3 + 3 * head as usize] = slot as u64;
-    row[2] = slot as u64;
+    let head = row[0];
+    row[5 * slot] = head;
+    row[5 * slot + 1] = 0;
+    row[5 * head as usize + 1] = slot as u64;
+    row[0] = slot as u64;
 }

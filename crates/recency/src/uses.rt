@@ -1,14 +1,15 @@
 // What a caller does with a row: empty it, look for a page, request one, list them.
-ghost use Rattle.std.specs.Prelude.{◌≡◌, ◌+◌, ◌-◌, ◌*◌, ◌<◌, ◌≤◌, false, [], ◌∷◌, ◌++◌, length, take, drop, MatchBool, ◌≢◌};
-ghost use Rattle.paging.specs.Lists.{has, without, last_of};
+ghost use Rattle.std.specs.Prelude.{◌≡◌, ◌+◌, ◌*◌, ◌<◌, ◌≤◌, false, ◌++◌, length, take, drop, MatchBool, MatchOption, slice_index};
+ghost use Rattle.paging.specs.Lists.{has};
 ghost use Rattle.paging.specs.Lru.{lru};
-ghost use Rattle.recency.specs.Row.{pages, count, held, next, prev, unlinked, pushed, admitted};
-ghost use Rattle.recency.specs.Sound.{Sound, Within, Sized, Finds, Kept, Table, Emptied};
+ghost use Rattle.recency.specs.Hash.{home};
+ghost use Rattle.recency.specs.Row.{pages, count, held, next, prev, door, admitted, renewed};
+ghost use Rattle.recency.specs.Sound.{Sound, Emptied};
 ghost use Rattle.recency.specs.Outcome.{outcome, fits};
 
+use crate::chains::{door_of, enter, forget, probe, seek, wipe};
 use crate::layout::Capacity;
 use crate::ring::{push, unlink};
-use crate::table::{note, probe, wipe};
 
 // What a request found.
 #[derive(Clone, Copy, Debug, PartialEq, Eq)]
@@ -36,13 +37,13 @@ pub fn clear(row: &mut [u64], k: usize) -> bool
     }
 }
 
-// A ring of slot 0 alone, and an empty table.
+// A ring of slot 0 alone, and no chain that leads anywhere.
 fn reset(row: &mut [u64], k: Capacity)
     requires long { 9 * k.places + 5 ≤ length row.old }
     ensures after { Emptied k.places row.old row.new }
 {
     row[0] = 0;
-    row[2] = 0;
+    row[1] = 0;
     row[3] = 0;
     wipe(row, k);
 }
@@ -65,29 +66,48 @@ pub fn request(row: &mut [u64], k: usize, page: u64) -> Outcome
     ensures beyond { drop (9 * k + 5) row.new ≡ drop (9 * k + 5) row.old }
 {
     let capacity = Capacity { places: k };
-    if let Some(slot) = probe(row, capacity, page) {
-        touch(row, slot);
-        return Outcome::Hit;
-    }
-    if (row[0] as usize) < k {
+    row[2] = page;
+    let found = seek(row, capacity, page);
+    if (row[3] as usize) < k && found.is_none() {
         fill(row, k, page);
         return Outcome::Filled;
     }
-    Outcome::Evicted(evict(row, capacity, page))
+    replace(row, capacity, found, page)
 }
 
-// Makes the page in a slot the one used last.
-fn touch(row: &mut [u64], slot: usize)
-    requires linked { Within row.old slot }
-    requires head_within { 4 + 3 * next (unlinked row.old slot) 0 < length row.old }
-    ensures after { row.new ≡ pushed (unlinked row.old slot) slot }
+// Requests a page where its slot is known, or no place is free. A hit and a miss do the same to the row and only the slot is chosen: a
+// processor can't guess whether a page will be there, and a choice is no guess.
+fn replace(row: &mut [u64], k: Capacity, found: Option<usize>, page: u64) -> Outcome
+    requires sound { Sound k.places row.old }
+    requires last { prev row.old 0 ≤ k.places }
+    requires found { MatchOption found ((count row.old ≡ k.places) × (has (pages row.old) page ≡ false)) (λ s. (1 ≤ s) × (s ≤ count row.old) × (held row.old s ≡ page)) }
+    ensures value { result ≡ outcome k.places (pages row.old) page }
+    ensures after { pages row.new ≡ lru k.places (pages row.old) page }
+    ensures sound { Sound k.places row.new }
+    ensures beyond { drop (9 * k.places + 5) row.new ≡ drop (9 * k.places + 5) row.old }
 {
+    let oldest = row[1] as usize;
+    let gone = row[5 * oldest + 2];
+    renew(row, k, found.unwrap_or(oldest), page);
+    match found {
+        Some(_) => Outcome::Hit,
+        None => Outcome::Evicted(gone),
+    }
+}
+
+// Makes the page in a slot of the ring the one used last, which may be another from then on.
+fn renew(row: &mut [u64], k: Capacity, slot: usize, page: u64)
+    requires sound { Sound k.places row.old }
+    requires low { 1 ≤ slot }
+    requires high { slot ≤ count row.old }
+    ensures after { row.new ≡ renewed k.places row.old slot page }
+{
+    forget(row, slot);
     unlink(row, slot);
-    push(row, slot);
+    admit(row, k, slot, page);
 }
 
 // Puts a page in front that is not there, where a place is free: what a request would do, with no search.
-#[tactic(auto, using(crate::proofs::Misses::ready_head))]
 pub fn fill(row: &mut [u64], k: usize, page: u64)
     requires sound { Sound k row.old }
     requires room { count row.old < k }
@@ -96,43 +116,22 @@ pub fn fill(row: &mut [u64], k: usize, page: u64)
     ensures sound { Sound k row.new }
     ensures beyond { drop (9 * k + 5) row.new ≡ drop (9 * k + 5) row.old }
 {
-    let slot = row[0] + 1;
-    row[0] = slot;
+    let slot = row[3] + 1;
+    row[3] = slot;
     admit(row, Capacity { places: k }, slot as usize, page);
 }
 
-// A page that is not there comes for the one used longest ago, which is told.
-#[tactic(auto, using(crate::proofs::Misses::last_low, crate::proofs::Misses::last_high, crate::proofs::Misses::oldest_page, crate::proofs::Misses::freed_count, crate::proofs::Misses::freed_sized))]
-fn evict(row: &mut [u64], k: Capacity, page: u64) -> u64
-    requires sound { Sound k.places row.old }
-    requires full { count row.old ≡ k.places }
-    requires absent { has (pages row.old) page ≡ false }
-    ensures value { result ≡ last_of (pages row.old) }
-    ensures after { pages row.new ≡ lru k.places (pages row.old) page }
-    ensures sound { Sound k.places row.new }
-    ensures beyond { drop (9 * k.places + 5) row.new ≡ drop (9 * k.places + 5) row.old }
-{
-    let slot = row[3] as usize;
-    let gone = row[4 + 3 * slot];
-    unlink(row, slot);
-    admit(row, k, slot, page);
-    gone
-}
-
-// Puts a page into a slot that is not in the ring, and the slot in front.
+// Puts a page into a slot that is in neither the ring nor a chain, and the slot in front of both.
 fn admit(row: &mut [u64], k: Capacity, slot: usize, page: u64)
-    requires sized { Sized k.places row.old }
-    requires low { 1 ≤ slot }
-    requires high { slot ≤ count row.old }
+    requires long { 9 * k.places + 5 ≤ length row.old }
+    requires inside { slot ≤ k.places }
     requires head { next row.old 0 ≤ k.places }
-    requires table { Table k.places row.old (λ s. s ≢ slot) }
-    ensures kept { Kept k.places (admitted row.old slot page) row.new }
-    ensures sized { Sized k.places row.new }
-    ensures table { Finds k.places row.new }
+    requires first { slice_index row.old (door k.places (home k.places page)) ≤ k.places }
+    ensures after { row.new ≡ admitted k.places row.old slot page }
 {
-    row[4 + 3 * slot] = page;
+    row[5 * slot + 2] = page;
     push(row, slot);
-    note(row, k, slot);
+    enter(row, door_of(k, page), slot);
 }
 
 // Writes the pages, the one used last first, as far as `out` goes, and says how many there are.
@@ -141,13 +140,13 @@ pub fn list(row: &[u64], k: usize, out: &mut [u64]) -> usize
     ensures value { result ≡ length (pages row.now) }
     ensures after { out.new ≡ take (length out.old) (pages row.now) ++ drop (length (pages row.now)) out.old }
 {
-    let count = row[0] as usize;
-    let mut slot = row[2] as usize;
+    let count = row[3] as usize;
+    let mut slot = row[0] as usize;
     let n = count.min(out.len());
     // The slot is stepped beside the places, since links are followed: no slice has the slots in this order.
     for place in &mut out[..n] {
-        *place = row[4 + 3 * slot];
-        slot = row[2 + 3 * slot] as usize;
+        *place = row[5 * slot + 2];
+        slot = row[5 * slot] as usize;
     }
     count
 }

@@ -5,7 +5,7 @@ use std::array;
 use std::test::Fail;
 use traces::{TEN, TEN_FIND, TOP, begins, draw};
 
-// The table is made again within it, once six cells are used.
+// Hits, free places and pages that make room, by hand.
 #[test]
 fn ten_requests(rt: HostRuntime) -> Result<(), Fail> {
     assert!(rt; gives(rt.alloc(), 3, &TEN, &TEN_FIND, &[1, 3, 5])?);
@@ -82,7 +82,7 @@ fn one_page_too_many(rt: HostRuntime) -> Result<(), Fail> {
     Ok(())
 }
 
-// Days of misses alone, in which the table is made again many times.
+// Days of misses alone, so that each slot leaves its chain for another many times.
 #[test]
 fn no_page_twice(rt: HostRuntime) -> Result<(), Fail> {
     let heap = rt.alloc();

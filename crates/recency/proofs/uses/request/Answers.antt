@@ -1,41 +1,59 @@
-use Rattle.std.proofs.Common.{ap, ◌∙◌, arith}
-use Rattle.recency.specs.Row.{pages}
-use Rattle.recency.specs.declared.uses.Outcome.TheVariants.{Evicted}
-use Rattle.recency.proofs.Outcomes.{outcome_hit, outcome_filled, outcome_evicted}
-use Rattle.recency.proofs.Pages.{page_found, page_missed, length_pages}
-use Rattle.recency.proofs.Served.{Served, hit_taken, hit_served}
+use Rattle.std.proofs.Common.{inl, inr, not, ap, ◌∙◌, arith}
+use Rattle.recency.proofs.Chosen.{known}
+use Rattle.recency.proofs.Oldest.{oldest_near}
+use Rattle.recency.proofs.Outcomes.{outcome_filled}
+use Rattle.recency.proofs.Pages.{page_there, length_pages}
+use Rattle.recency.proofs.Sought.{sought_sound, sought_pages, sought_beyond}
 use Rattle.recency.proofs.uses.request.Goals as goal
+use Rattle.recency.proofs.uses.request.Goals.{else-row-k-via-then-row-k+else-is_none, else-row-k-via-else-row-k}
 
-pub touch-requires : goal.touch-requires
-touch-requires c =
-    let found = c.in-Some.ensures.cases in
-    let t = hit_taken c.args.k c.args.row.now c.requires.sound c.in-Some.slot found.0 found.1 in
-    let long = c.requires.sound.sized.long in
-    record { linked = record { slot = omega arith; next = omega arith; prev = omega arith }; head_within = omega arith }
+pub seek-found-requires-clause-sound : goal.seek-found-requires-clause-sound
+seek-found-requires-clause-sound c = sought_sound c.args.k c.args.row.now c.args.page c.requires.sound
 
-pub returns-in-Some : goal.returns-in-Some
-returns-in-Some c =
-    let k = c.args.k in
-    let row = c.args.row.now in
-    let s = c.in-Some.slot in
-    let found = c.in-Some.ensures.cases in
-    let there = page_found k row c.requires.sound c.args.page s found.0 found.1 found.2 in
-    let served : Served k row c.args.page c.touch.new.row = rw (c.touch.ensures.after, ← found.2) (hit_served k row c.requires.sound s found.0 found.1) in
-    record { value = outcome_hit k (pages row) c.args.page there; after = served.after; sound = served.sound; beyond = served.beyond }
+pub fill-requires-clause-sound : goal.fill-requires-clause-sound
+fill-requires-clause-sound c = sought_sound c.args.k c.args.row.now c.args.page c.requires.sound
 
 pub fill-requires-clause-absent : goal.fill-requires-clause-absent
-fill-requires-clause-absent c = page_missed _ _ c.requires.sound c.args.page c.in_default.ensures.cases
+fill-requires-clause-absent c =
+    let s = sought_sound c.args.k c.args.row.now c.args.page c.requires.sound in
+    page_there c.args.k _ s c.args.page c.seek-found.result c.seek-found.ensures.cases ∙ c.if-is_none.ensures
 
-pub returns-then-row-k-clause-value : goal.returns-then-row-k-clause-value
-returns-then-row-k-clause-value c =
-    let many = length_pages _ _ c.requires.sound in
-    outcome_filled _ _ c.args.page (page_missed _ _ c.requires.sound c.args.page c.in_default.ensures.cases) (omega arith)
+pub returns-then-is_none : goal.returns-then-is_none
+returns-then-is_none c =
+    let k = c.args.k in
+    let row = c.args.row.now in
+    let page = c.args.page in
+    let s = sought_sound k row page c.requires.sound in
+    let absent = page_there k _ s page c.seek-found.result c.seek-found.ensures.cases ∙ c.if-is_none.ensures in
+    let same = sought_pages k row page c.requires.sound in
+    let filled = outcome_filled k _ page absent (omega (arith, length_pages k _ s)) in
+    record {
+      value = rw same at filled;
+      after = rw same at c.fill.ensures.after;
+      sound = c.fill.ensures.sound;
+      beyond = c.fill.ensures.beyond ∙ sought_beyond k row page c.requires.sound;
+    }
 
-pub evict-requires-clause-absent : goal.evict-requires-clause-absent
-evict-requires-clause-absent c = page_missed _ _ c.requires.sound c.args.page c.in_default.ensures.cases
+pub replace-requires : goal.replace-requires
+replace-requires c =
+    let s = sought_sound c.args.k c.args.row.now c.args.page c.requires.sound in
+    record {
+      sound = s;
+      last = oldest_near c.args.k _ s;
+      found = known c.args.k _ c.args.page s c.seek-found.result c.seek-found.ensures.cases
+          (elim c.else-row-k.branch [
+            | else-row-k-via-then-row-k+else-is_none w ↦ inr (w.is_none.ensures ∙ ap not w.if-is_none.false)
+            | else-row-k-via-else-row-k w ↦ inl (omega (arith, w.if-row-k.false))
+          ]);
+    }
 
-pub returns-clause-value : goal.returns-clause-value
-returns-clause-value c =
-    let absent = page_missed _ _ c.requires.sound c.args.page c.in_default.ensures.cases in
-    let many = length_pages _ _ c.requires.sound in
-    ap Evicted c.evict.ensures.value ∙ outcome_evicted _ _ c.args.page absent (omega arith)
+pub returns : goal.returns
+returns c =
+    let same = sought_pages c.args.k c.args.row.now c.args.page c.requires.sound in
+    let r = c.replace.ensures in
+    record {
+      value = rw same at r.value;
+      after = rw same at r.after;
+      sound = r.sound;
+      beyond = r.beyond ∙ sought_beyond c.args.k c.args.row.now c.args.page c.requires.sound;
+    }

@@ -8,13 +8,12 @@ returns c =
     let k = c.args.k.places in
     let w = c.wipe.ensures in
     let long = c.requires.long in
-    let len = w.kept.len in
-    let sets : length (set (set (set c.args.row.now 0 0) 2 0) 3 0) ≡ length c.args.row.now = simp length-set in
-    let at = w.kept.same in
+    let sets : length (set (set (set c.args.row.now 0 0) 1 0) 3 0) ≡ length c.args.row.now = simp length-set in
+    let len = w.len in
     record {
       after = emptied k c.args.row.now c.wipe.new.row c.args.k.some c.args.k.most (omega arith)
-          (at 0 (λ e. omega arith) (omega arith) ∙ grind (arith, get_or-set_same, get_or-set_other, length-set)) w.used
-          (at 2 (λ e. omega arith) (omega arith) ∙ grind (arith, get_or-set_same, get_or-set_other, length-set))
-          (at 3 (λ e. omega arith) (omega arith) ∙ grind (arith, get_or-set_same, get_or-set_other, length-set)) w.empty
-          (w.kept.beyond ∙ search (rules, drop-set-lt));
+          (w.same 3 (omega arith) ∙ grind (arith, get_or-set_same, get_or-set_other, length-set))
+          (w.same 0 (omega arith) ∙ grind (arith, get_or-set_same, get_or-set_other, length-set))
+          (w.same 1 (omega arith) ∙ grind (arith, get_or-set_same, get_or-set_other, length-set)) w.empty
+          (w.beyond ∙ search (rules, drop-set-lt));
     }
