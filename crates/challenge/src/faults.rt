@@ -1,4 +1,6 @@
 // Why a policy is not challenged.
+ghost use Rattle.challenge.specs.Faults.{told_bytes};
+
 use contest::Fault as Cause;
 use std::{fmt, io};
 
@@ -25,6 +27,8 @@ pub(crate) struct Told<'a> {
 }
 
 impl fmt::Display for Told<'_> {
+    ghost output = { λ t. told_bytes t.name.now t.fault };
+
     fn fmt<W: fmt::Write>(&self, f: &mut fmt::Formatter<W>) -> fmt::Result {
         let Told { name, fault } = *self;
         match fault {

@@ -18,5 +18,5 @@ With none of the first four, or with FILE, the settings are read from FILE or
 standard input: K, H and N in two bytes each, low byte first, and one byte for
 the policy, 0, 1 or 2. Options count for more than FILE.
 
-  challenge --places 3 --rival 2 --rounds 4 --policy fifo
+  bin/challenge --places 3 --rival 2 --rounds 4 --policy fifo
 ";

@@ -8,7 +8,7 @@ use Rattle.std.proofs.lemmas.List.{length-take, length_push}
 use Rattle.std.proofs.lemmas.Bool.{ne_eqb}
 use Rattle.std.specs.Option.{option_and_then, option_to_list}
 use Rattle.trace.specs.declared.headers.Header.{Header}
-use Rattle.text.specs.Texts.{State, with_digit, with_byte, page_of, end_word, page_in, page_at, step_in, step, pages_from, after, pages_in}
+use Rattle.text.specs.Texts.{State, with_digit, ends_mark, longer, with_byte, page_of, end_word, page_in, page_at, step_in, step, pages_from, after, pages_in}
 use Rattle.text.specs.declared.readers.Mode.{Mode}
 use Rattle.text.specs.declared.readers.Mode.TheVariants.{Words, Comment, Bad}
 use Rattle.text.proofs.Pieces.{pages_append, after_append}
@@ -64,6 +64,13 @@ record Word (l v : ℕ) (s : State) : Type 0 where
   mode_is : s.mode ≡ Words
   value_is : s.value ≡ Some v
 
+-- no digit ends the mark that may stand in front of a word
+not_mark : (word : List ℕ) (b : ℕ) → b ≤ 57 → ends_mark word b ≡ false
+not_mark [] b high = refl
+not_mark (first ∷ []) b high = refl
+not_mark (first ∷ second ∷ []) b high = grind arith
+not_mark (first ∷ second ∷ third ∷ word) b high = refl
+
 module _ (l v : ℕ) (s : State) (word : Word l v s) where
   digit_step : (b : ℕ) → 48 ≤ b → b ≤ 57 → (step s b ≡ with_byte s b) × (page_at s b ≡ None)
   digit_step b low high = let mode = word.mode_is in rw mode (grind arith, grind arith)
@@ -73,10 +80,12 @@ module _ (l v : ℕ) (s : State) (word : Word l v s) where
 
   digit_more : (b : ℕ) → 48 ≤ b → b ≤ 57 → 10 * v + (b - 48) < 4294967296 → Word l (10 * v + (b - 48)) (step s b) × (0 < length (step s b).told)
   digit_more b low high small =
-      let went = (digit_step b low high).0 in
+      let no = not_mark s.told b high in
+      let put : with_byte s b ≡ longer s b = rw no refl in
+      let went = (digit_step b low high).0 ∙ put in
       let is = word.value_is in
       let value = digit_value b low high small in
-      let some : 0 < length (with_byte s b).told = omega (arith, length-take {A = ℕ}, length_push s.told b) in (
+      let some : 0 < length (longer s b).told = omega (arith, length-take {A = ℕ}, length_push s.told b) in (
         record { line_is = rw went word.line_is; mode_is = rw went word.mode_is; value_is = rw (went, is) value },
         rw went some,
       )

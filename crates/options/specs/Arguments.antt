@@ -1,6 +1,7 @@
 -- What the arguments of a program mean. Assumes nothing: these are definitions.
 --     place_of option       the option's number among all
---     dashed word           it begins as an option does
+--     dashed word           it begins as an option does, and is more than `-`
+--     names_file word       it can name a file that is written: it is not empty, and does not begin with `-`
 --     flag option           an option that takes no value
 --     has g o               the option was given
 --     detail g              how much is said: the summary alone where it was asked for
@@ -13,7 +14,7 @@
 --     settled g             where two options do not go together, that they do not
 --     read_from p r i ws    the arguments from i on
 --     arguments p ws        all of them
-use Rattle.std.specs.Prelude.{ℕ, ◌+◌, Bool, true, false, cond, ◌&&◌, ◌||◌, List, [], ◌∷◌, length, is_some, Some, None, Ok, Err, Option, Result, ◌==◌, nat_le}
+use Rattle.std.specs.Prelude.{ℕ, ◌+◌, Bool, true, false, cond, not, ◌&&◌, ◌||◌, List, [], ◌∷◌, length, is_some, Some, None, Ok, Err, Option, Result, ◌==◌, nat_le}
 use Rattle.std.specs.List as list
 use Rattle.std.specs.Option.{option_map, option_and_then}
 use Rattle.text.specs.Texts.{number_from}
@@ -47,7 +48,11 @@ place_of Policy = 11
 abbrev pub dashed : List ℕ → Bool
 dashed [] = false
 dashed (a ∷ []) = false
-dashed (a ∷ b ∷ rest) = a == 45 && b == 45
+dashed (a ∷ b ∷ rest) = a == 45
+
+abbrev pub names_file : List ℕ → Bool
+names_file [] = false
+names_file (a ∷ rest) = not (a == 45)
 
 abbrev pub flag : Opt → Bool
 flag File = true
@@ -164,7 +169,7 @@ with_value Report i word g = option_map (λ n. put Report n g) (number_within 1 
 with_value Pack i word g = None
 with_value Unpack i word g = None
 with_value Summary i word g = None
-with_value Svg i word g = cond (dashed word) None (Some (put Svg i g))
+with_value Svg i word g = cond (names_file word) (Some (put Svg i g)) None
 with_value Rival i word g = option_map (λ n. put Rival n g) (number_within 1 4096 word)
 with_value Rounds i word g = option_map (λ n. put Rounds n g) (number_within 0 65535 word)
 with_value Policy i word g = option_map (λ kind. put_policy kind g) (policy_of word)

@@ -2,7 +2,7 @@
 ghost use Rattle.std.specs.Prelude.{◌≡◌, cond, Some, None};
 
 use crate::names::Opt;
-use crate::values::{MOST_PLACES, MOST_ROUNDS, Wrong, dashed, number_within};
+use crate::values::{MOST_PLACES, MOST_ROUNDS, Wrong, names_file, number_within};
 use trace::{Detail, PolicyKind};
 
 #[derive(Clone, Copy, Debug, Default, PartialEq, Eq)]
@@ -98,7 +98,7 @@ impl Given {
             Opt::Rival => given.rival = Some(number_within(1, MOST_PLACES, word)?),
             Opt::Rounds => given.rounds = Some(number_within(0, MOST_ROUNDS, word)?),
             Opt::Policy => given.policy = Some(word.parse().ok()?),
-            Opt::Svg if !dashed(word) => given.svg = Some(i),
+            Opt::Svg if names_file(word) => given.svg = Some(i),
             _ => return None,
         }
         Some(given)

@@ -1,6 +1,6 @@
 // What an option takes for its value.
 ghost use Rattle.std.specs.Prelude.{◌≡◌};
-ghost use Rattle.options.specs.Arguments.{dashed, number_within};
+ghost use Rattle.options.specs.Arguments.{dashed, names_file, number_within};
 
 use crate::names::Opt;
 
@@ -26,11 +26,21 @@ pub enum Wrong {
     Together(Opt, Opt),
 }
 
-// Whether the word begins as an option does.
+// Whether the word begins as an option does, and is more than the `-` that stands for standard input.
 pub(crate) fn dashed(word: &str) -> bool
     ensures value { result ≡ dashed word.now }
 {
-    word.as_bytes().starts_with(b"--")
+    matches!(word.as_bytes(), [b'-', _, ..])
+}
+
+// Whether the word can name a file that is written: `-` and what begins as an option does can't, and no word at all.
+pub(crate) fn names_file(word: &str) -> bool
+    ensures value { result ≡ names_file word.now }
+{
+    match word.as_bytes() {
+        [] | [b'-', ..] => false,
+        _ => true,
+    }
 }
 
 // The number that the word is, where it is one of these. Two numbers and no `RangeInclusive`: where a loop has used one up, its `exhausted` is true

@@ -1,4 +1,10 @@
 // Why a trace can't be played to its end.
+ghost use Rattle.std.specs.Prelude.{◌≡◌, map, string_bytes};
+ghost use Rattle.std.specs.Option.{option_map, option_and_then};
+ghost use Rattle.options.specs.Places.{word_at, file_named};
+ghost use Rattle.play.specs.Faults.{told_bytes, fault_of};
+ghost use Rattle.play.specs.declared.faults.Fault.TheVariants as fault;
+
 use closing::Stop;
 use console::Asked;
 use picture::Undrawable;
@@ -26,12 +32,16 @@ pub(crate) enum Fault {
 }
 
 impl From<fmt::Error> for Fault {
+    ghost from_gives = { λ _ r. r ≡ fault.Memory };
+
     fn from(_error: fmt::Error) -> Fault {
         Fault::Memory
     }
 }
 
 impl From<AllocError> for Fault {
+    ghost from_gives = { λ _ r. r ≡ fault.Memory };
+
     fn from(_error: AllocError) -> Fault {
         Fault::Memory
     }
@@ -39,6 +49,8 @@ impl From<AllocError> for Fault {
 
 // Only `closing::draw` answers a `Stop`.
 impl From<Stop> for Fault {
+    ghost from_gives = { λ stop r. r ≡ fault_of stop };
+
     fn from(stop: Stop) -> Fault {
         match stop {
             Stop::Refused(_) => Fault::NoPicture,
@@ -56,6 +68,8 @@ pub(crate) struct Told<'a> {
 }
 
 impl fmt::Display for Told<'_> {
+    ghost output = { λ t. told_bytes (file_named t.asked.now.given (map string_bytes t.asked.now.words.items)) t.fault };
+
     fn fmt<W: fmt::Write>(&self, f: &mut fmt::Formatter<W>) -> fmt::Result {
         let name = self.asked.file().unwrap_or("standard input");
         match &self.fault {
@@ -81,6 +95,8 @@ impl fmt::Display for Told<'_> {
 }
 
 // The file that the picture of the report goes to, where one is asked for.
-pub(crate) fn picture_of(asked: &Asked) -> Option<&str> {
+pub(crate) fn picture_of(asked: &Asked) -> Option<&str>
+    ensures value { option_map (λ w. w.now) result ≡ option_and_then (word_at (map string_bytes asked.now.words.items)) asked.now.given.svg }
+{
     asked.given.svg.and_then(|place| asked.word(place))
 }

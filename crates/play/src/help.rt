@@ -19,5 +19,5 @@ without one, or with -, standard input is read.
 In bytes a trace has K and M in two bytes each and then four bytes for each
 page, low byte first.
 
-  printf '1 2 3 1 4 1 2 5 3 1' | play --text --places 3 --report 4
+  printf '1 2 3 1 4 1 2 5 3 1' | bin/play --text --places 3 --summary
 ";

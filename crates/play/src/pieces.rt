@@ -1,6 +1,7 @@
 // A trace in bytes, read piece by piece, so that one of any length is taken in the same memory.
-ghost use Rattle.std.specs.Prelude.{◌≡◌, ◌+◌, ◌%◌, ◌<◌, ◌≤◌, true, length, take, is_ok, IfOk, OnOk};
+ghost use Rattle.std.specs.Prelude.{◌≡◌, ◌+◌, ◌-◌, ◌/◌, ◌%◌, ◌^◌, ◌<◌, ◌≤◌, min, true, length, take, is_ok, IfOk, IfErr, OnOk};
 ghost use Rattle.trace.specs.Requests.{left_over};
+ghost use Rattle.play.specs.declared.faults.Fault.TheVariants as fault;
 
 use crate::faults::Fault;
 use crate::sources::Source;
@@ -41,7 +42,10 @@ pub(crate) struct Pieces {
 }
 
 impl Pieces {
-    pub(crate) fn new() -> Pieces {
+    pub(crate) fn new() -> Pieces
+        ensures held { result.held ≡ 0 }
+        ensures served { result.served ≡ 0 }
+    {
         Pieces {
             buf: [0; PIECE],
             held: 0,
@@ -54,6 +58,7 @@ impl Pieces {
         requires within { self.old.held + n ≤ 65536 }
         ensures went { S.goes step.old (take (self.old.held + n) self.old.buf) step.new }
         ensures after { OnOk result (take self.new.held self.new.buf ≡ left_over (take (self.old.held + n) self.old.buf)) }
+        ensures served { self.new.served ≡ min (self.old.served + (self.old.held + n) / 4) (2 ^ 64 - 1) }
     {
         let filled = self.held + n;
         self.served = self.served.saturating_add(filled as u64 / 4);
@@ -85,6 +90,7 @@ impl Source for Pieces {
     // The input may end only where no request was begun.
     fn take_end<S: Step>(&mut self, _step: &mut S) -> Result<(), Fault>
         ensures whole { is_ok result ≡ true → self.new.held ≡ 0 }
+        ensures cut { IfErr result (λ f. f ≡ fault.InRequest self.old.served) }
     {
         if self.held > 0 {
             return Err(Fault::InRequest(self.served));

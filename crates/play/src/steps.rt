@@ -1,11 +1,13 @@
 // What is done with the requests of a trace, which come in piece by piece.
-ghost use Rattle.std.specs.Prelude.{◌≡◌, ℕ, true, [], List, is_ok, string_bytes};
+ghost use Rattle.std.specs.Prelude.{◌≡◌, ℕ, true, [], List, is_ok, IfOk, string_bytes};
 ghost use Rattle.trace.specs.Requests.{requests_in};
 ghost use Rattle.lru_cache.specs.Rows.{capacity, cached};
 ghost use Rattle.closing.specs.Summed.{Summed};
 ghost use Rattle.day.specs.Said.{lines_for};
 ghost use Rattle.day.specs.Reports.{report_of};
-ghost use Rattle.day.specs.Days.{kept, Went};
+ghost use Rattle.day.specs.Days.{kept, Begun, Went};
+ghost use Rattle.closing.specs.Drawn.{Pictured};
+ghost use Rattle.convert.specs.Days.{header_line};
 
 use crate::faults::Fault;
 use closing::Requests;
@@ -49,7 +51,10 @@ pub(crate) struct Playing<W> {
 }
 
 impl<W: Write> Playing<W> {
-    pub(crate) fn new(heap: Global, out: W, header: Header, detail: Detail) -> Playing<W> {
+    pub(crate) fn new(heap: Global, out: W, header: Header, detail: Detail) -> Playing<W>
+        ensures begun { Begun header result.day }
+        ensures detail { result.detail ≡ detail }
+    {
         Playing {
             out,
             day: Day::new(header),
@@ -77,7 +82,9 @@ impl<W: Write> Playing<W> {
     }
 
     // Writes the picture of the report to the file, with a mark at k places.
-    pub(crate) fn draw(&mut self, rt: &HostRuntime, path: &str, k: usize) -> Result<(), Fault> {
+    pub(crate) fn draw(&mut self, rt: &HostRuntime, path: &str, k: usize) -> Result<(), Fault>
+        ensures drawn { is_ok result ≡ true → Pictured (kept self.old.day) self.old.day.reported k [] (string_bytes self.new.text) }
+    {
         let day = &self.day;
         self.text.clear();
         closing::draw(requests_of(day), day.reported, k, &mut self.text)?;
@@ -133,14 +140,18 @@ pub(crate) struct Unpacking<W> {
 }
 
 impl<W: Write + Drop> Unpacking<W> {
-    pub(crate) fn begin(heap: Global, out: W, header: Header) -> Result<Unpacking<W>, Fault> {
+    pub(crate) fn begin(heap: Global, out: W, header: Header) -> Result<Unpacking<W>, Fault>
+        ensures noted { IfOk result (λ begun. string_bytes begun.text ≡ header_line header) }
+    {
         let mut text = String::new(heap);
         convert::unpack_header(header, &mut text)?;
         Ok(Unpacking { out, text })
     }
 
     // Writes what is left.
-    pub(crate) fn flush(&mut self) -> Result<(), Fault> {
+    pub(crate) fn flush(&mut self) -> Result<(), Fault>
+        ensures empty { is_ok result ≡ true → string_bytes self.new.text ≡ [] }
+    {
         written(&mut self.out, self.text.as_bytes())?;
         self.text.clear();
         Ok(())

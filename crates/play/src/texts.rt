@@ -1,4 +1,10 @@
 // A trace as text, read piece by piece.
+ghost use Rattle.std.specs.Prelude.{◌≡◌, true, false, take, is_ok, IfErr};
+ghost use Rattle.text.specs.Texts.{begin, pages_from, after, is_bad};
+ghost use Rattle.text.specs.Readers.{state_of};
+ghost use Rattle.convert.specs.Days.{bytes_of};
+ghost use Rattle.play.specs.Faults.{says_word};
+
 use crate::faults::Fault;
 use crate::pieces::read_some;
 use crate::sources::Source;
@@ -22,7 +28,9 @@ pub(crate) struct Texts {
 }
 
 impl Texts {
-    pub(crate) fn new(heap: Global) -> Texts {
+    pub(crate) fn new(heap: Global) -> Texts
+        ensures begun { state_of result.reader ≡ begin }
+    {
         Texts {
             heap,
             reader: Reader::new(),
@@ -31,15 +39,22 @@ impl Texts {
     }
 
     // A word that is no page is a fault.
-    fn checked(&self) -> Result<(), Fault> {
+    fn checked(&self) -> Result<(), Fault>
+        ensures good { is_ok result ≡ true → is_bad (state_of self.now.reader) ≡ false }
+        ensures word { IfErr result (says_word (state_of self.now.reader)) }
+    {
         match self.reader.bad() {
             Some(word) => Err(Fault::Word(word.to_string(self.heap)?)),
             None => Ok(()),
         }
     }
 
-    // Takes the pages that a piece of the text names.
-    fn take_in<S: Step>(&mut self, piece: &[u8], step: &mut S) -> Result<(), Fault> {
+    // Takes the pages that a piece of the text names, of its first 16,384 bytes.
+    fn take_in<S: Step>(&mut self, piece: &[u8], step: &mut S) -> Result<(), Fault>
+        ensures went { S.goes step.old (bytes_of (pages_from (state_of self.old.reader) (take 16384 piece.now))) step.new }
+        ensures after { is_ok result ≡ true → state_of self.new.reader ≡ after (state_of self.old.reader) (take 16384 piece.now) }
+        ensures good { is_ok result ≡ true → is_bad (state_of self.new.reader) ≡ false }
+    {
         let n = convert::pack_text(&mut self.reader, piece, &mut self.buf);
         step.take(Piece {
             bytes: &self.buf[..n],
@@ -62,7 +77,9 @@ impl Source for Texts {
     }
 
     // The end of the input is read as a line break, since the last line may lack it.
-    fn take_end<S: Step>(&mut self, step: &mut S) -> Result<(), Fault> {
+    fn take_end<S: Step>(&mut self, step: &mut S) -> Result<(), Fault>
+        ensures whole { is_ok result ≡ true → is_bad (state_of self.new.reader) ≡ false }
+    {
         self.take_in(b"\n", step)
     }
 }

@@ -1,24 +1,33 @@
-// A day from a text, one page number a line, played by LRU and by the least requested side by side, and its summary.
+// A day from a text, as `play --text` reads one, played by LRU and by the least requested side by side, and its summary.
 #![tactic(auto)]
 
+use anyhow::bail;
 use least_requested::LeastRequested;
 use policies::{Lru, WithCapacity};
 use std::io::Read;
 use summary::{summarize, tell};
+use text::Reader;
 
 const PLACES: usize = 5;
 
-// A line that is no number is a comment.
 fn main(rt: HostRuntime) -> anyhow::Result<()> {
-    let mut text = String::new(rt.alloc());
-    rt.stdin().read_to_string(&mut text)?;
-    let trace: Vec<u64> = text
-        .lines()
-        .filter_map(|line| line.parse().ok())
-        .collect(rt.alloc())?;
-    play::<Lru>(&rt, "LRU", &trace)?;
-    play::<LeastRequested>(&rt, "the least requested", &trace)?;
-    sum_up(&rt, &trace)
+    let mut bytes = Vec::new(rt.alloc());
+    rt.stdin().read_to_end(&mut bytes)?;
+    // The end of a text is read as a line break.
+    bytes.push(b'\n')?;
+    let mut pages = vec![in rt.alloc(); 0; bytes.len()]?;
+    let mut reader = Reader::new();
+    let count = reader.read(&bytes, &mut pages);
+    if let Some(word) = reader.bad() {
+        bail!("standard input:{word}");
+    }
+    compare(&rt, &pages[..count])
+}
+
+fn compare(rt: &HostRuntime, trace: &[u64]) -> anyhow::Result<()> {
+    play::<Lru>(rt, "LRU", trace)?;
+    play::<LeastRequested>(rt, "the least requested", trace)?;
+    sum_up(rt, trace)
 }
 
 // How many of the requests a policy fetches.

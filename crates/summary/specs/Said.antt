@@ -3,7 +3,7 @@
 --     amount_bytes a            `10 requests`, `1 page`, `5 different pages`, `3 places`, `3 times as many`
 --     hundredths_bytes n        n hundredths, with a point before the last two digits
 --     bound_bytes s             `(3 - 1 + 1) x 8 <= 3 x 10`
---     fetched_bytes s           what LRU fetched, and that nobody could have fetched fewer, or how few
+--     fetched_bytes s           what LRU fetched, how few anybody could have fetched, and how many times as many these are
 --     nothing_line, counts_line s, fetched_line s, promised_line s, tightest_line s, needed_line s
 --                               the sentences, each with its line break
 --     paragraph s               the sentences of a summary, a line each
@@ -31,9 +31,8 @@ bound_bytes s =
 
 abbrev pub fetched_bytes : Summary → List ℕ
 fetched_bytes s =
-    cond (s.house == s.known) (decimal s.house ++ codes ", and nobody could have fetched fewer.")
-    (decimal s.house ++ (codes ", and nobody could have fetched fewer than " ++ (decimal s.known
-    ++ (codes ": at most " ++ (hundredths_bytes s.hundredths ++ codes " times as many.")))))
+    decimal s.house ++ (codes ", and nobody could have fetched fewer than " ++ (decimal s.known
+    ++ (codes ": at most " ++ (hundredths_bytes s.hundredths ++ codes " times as many."))))
 
 abbrev pub nothing_line : List ℕ
 nothing_line = codes "There were no requests, and nothing was fetched.\n"

@@ -20,15 +20,11 @@ impl fmt::Display for Fetched {
             hundredths,
             ..
         } = self.0;
-        if house == known {
-            write!(f, "{house}, and nobody could have fetched fewer.")
-        } else {
-            write!(
-                f,
-                "{house}, and nobody could have fetched fewer than {known}: at most {} times as many.",
-                Hundredths(hundredths)
-            )
-        }
+        write!(
+            f,
+            "{house}, and nobody could have fetched fewer than {known}: at most {} times as many.",
+            Hundredths(hundredths)
+        )
     }
 }
 

@@ -4,7 +4,9 @@
 --     begin               before its first byte
 --     with_digit n b      the number n with one byte more: none where the byte is no digit, or the number is 2^32 or more
 --     number_from n word  and with all the bytes of a word: from 0, the number that the word is, where it is a page
---     with_byte s b       the word goes on
+--     ends_mark word b    the word and b are the mark that some programs write in front of a text in UTF-8, 239 187 191
+--     longer s b          the word goes on
+--     with_byte s b       likewise, but that the mark in front of a word is passed over
 --     page_of s           the page that the word is, where it ends and is one
 --     end_word s l m      the word ends, and line l follows, in words or in a comment; a word that is no page is kept, and nothing more is read
 --     blank b             b is a space, a tab or a carriage return
@@ -38,14 +40,23 @@ abbrev pub number_from : ℕ → List ℕ → Option ℕ
 number_from n [] = Some n
 number_from n (b ∷ word) = option_and_then (λ m. number_from m word) (with_digit n b)
 
-abbrev pub with_byte : State → ℕ → State
-with_byte s b =
+abbrev pub ends_mark : List ℕ → ℕ → Bool
+ends_mark [] b = false
+ends_mark (first ∷ []) b = false
+ends_mark (first ∷ second ∷ []) b = b == 191 && (first == 239 && second == 187)
+ends_mark (first ∷ second ∷ third ∷ word) b = false
+
+abbrev pub longer : State → ℕ → State
+longer s b =
     record {
       line = s.line;
       mode = s.mode;
       told = take 41 (s.told ++ (b ∷ []));
       value = option_and_then (λ n. with_digit n b) s.value;
     }
+
+abbrev pub with_byte : State → ℕ → State
+with_byte s b = cond (ends_mark s.told b) (record { line = s.line; mode = s.mode; told = []; value = Some 0 }) (longer s b)
 
 abbrev pub page_of : State → Option ℕ
 page_of s = cond (length s.told == 0) None s.value

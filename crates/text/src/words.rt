@@ -1,6 +1,6 @@
 // A word of the text, byte by byte.
 ghost use Rattle.std.specs.Prelude.{◌≡◌};
-ghost use Rattle.text.specs.Texts.{with_digit, number_from, with_byte, page_of, end_word, page_at, step};
+ghost use Rattle.text.specs.Texts.{with_digit, number_from, ends_mark, with_byte, page_of, end_word, page_at, step};
 ghost use Rattle.text.specs.Readers.{state_of};
 
 use crate::readers::{Mode, Reader};
@@ -27,12 +27,27 @@ pub fn number(word: &[u8]) -> Option<u64>
     Some(number.into())
 }
 
+// Whether the byte ends the mark that some programs write in front of a text in UTF-8, three bytes of which these are the first.
+fn ends_mark(word: &[u8], byte: u8) -> bool
+    ensures value { result ≡ ends_mark word.now byte }
+{
+    match word {
+        [first, second] => byte == 0xbf && *first == 0xef && *second == 0xbb,
+        _ => false,
+    }
+}
+
 impl Reader {
-    // The word has one byte more.
+    // The word has one byte more. The mark that some programs write in front of a text in UTF-8 is no part of it.
     #[tactic(auto, using(crate::proofs::Told::told_more))]
     fn put(&mut self, byte: u8)
         ensures after { state_of self.new ≡ with_byte (state_of self.old) byte }
     {
+        if ends_mark(self.word.as_slice(), byte) {
+            self.word.clear();
+            self.page = Some(0);
+            return;
+        }
         self.page = self.page.and_then(|number| with_digit(number, byte));
         // Where the word is as long as what is kept of it, its further bytes are not.
         let _ = self.word.try_push(byte);

@@ -56,7 +56,7 @@ fn show(rt: &HostRuntime, program: Program, line: &str) -> io::Result<()> {
 }
 
 // What `play` is given.
-const PLAY: [&str; 18] = [
+const PLAY: [&str; 24] = [
     "day.txt",
     "--text --places 3 day.txt --report 4096",
     "--pack --places 1 --places 0007",
@@ -64,12 +64,18 @@ const PLAY: [&str; 18] = [
     "--text --summary --svg out.svg",
     "--foo",
     "day.txt --",
+    "-h",
+    "--places=3",
     "--places x",
+    "--places -5",
     "--places 0",
     "--report 4097",
     "--report +5",
     "--text --report",
     "--svg --text",
+    "--svg -",
+    "--svg ",
+    "- b",
     "a b",
     "--text a b",
     "--text --unpack",

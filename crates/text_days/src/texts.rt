@@ -46,7 +46,7 @@ fn show(rt: &HostRuntime, name: &str, text: &str) -> io::Result<()> {
 }
 
 // Texts by what they show.
-const TEXTS: [(&str, &str); 15] = [
+const TEXTS: [(&str, &str); 18] = [
     ("one a line", "1\n2\n3\n"),
     ("several in a line", "1 2\t3\r\n  4\n\n5"),
     ("comments", "# ten\n1#one\n2 # two 3\n#\n4#"),
@@ -60,6 +60,9 @@ const TEXTS: [(&str, &str); 15] = [
     ("another", "+5"),
     ("a fraction", "5.0 6"),
     ("not in ASCII", "1\n\u{e9}\u{1}x\n"),
+    ("marks in front", "\u{feff}1 2\n\u{feff}# 3\n\u{feff}\n4"),
+    ("a mark behind", "1 2\u{feff}\n"),
+    ("a NUL byte", "1\n2\0\n"),
     ("forty bytes", "x234567890123456789012345678901234567890"),
     (
         "and one more",
