@@ -2,6 +2,14 @@
 
 use std::collections::{HashSet, VecDeque};
 
+/// Where a challenge stands: the next new page, the pages of the round that are listed, those that were picked, and how many picks there were.
+pub struct State {
+    pub next: u64,
+    pub listed: Vec<u64>,
+    pub noted: Vec<u64>,
+    pub picks: u64,
+}
+
 /// The requests against a policy with k places, beside a schedule with h.
 pub struct Adversary {
     k: usize,
@@ -52,6 +60,18 @@ impl Adversary {
         let page = *self.list.iter().find(|page| !shown.contains(page)).expect("a page that is not shown");
         self.second.push(page);
         page
+    }
+
+    /// What the state row and the adversary row hold of this after a request (docs/FORMATS.md, "State row"). A round ends with its last request.
+    pub fn state(&mut self) -> State {
+        if self.new.is_empty() && self.round_is_over() && self.list.len() > self.h {
+            self.end_round();
+            self.second.clear();
+        }
+        let mut seen = HashSet::new();
+        let noted = self.second.iter().filter(|page| seen.insert(**page)).copied().collect();
+        let to_come = self.new.len();
+        State { next: self.next - to_come as u64, listed: self.list[..self.list.len() - to_come].to_vec(), noted, picks: self.second.len() as u64 }
     }
 
     /// After the opening, or after h - 1 picks.

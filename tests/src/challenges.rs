@@ -1,7 +1,7 @@
 //! Challenges whose policy is ours, by `dq_begin`, `dq_step` and `dq_accept`: policies that keep the rules, and such as break each. And
 //! whole challenges of the library's own, by `dq_contest`.
 
-use crate::adversary::{Adversary, broken};
+use crate::adversary::{Adversary, State, broken};
 use crate::boundary::{self, Answer, Lent};
 use crate::caches::{self, Cache, RULES};
 use crate::random::Random;
@@ -98,6 +98,15 @@ impl Stand {
         }
         answer
     }
+
+    /// Sees that both rows say where the challenge stands, number by number.
+    fn stands(&self, h: usize, ours: &State) {
+        let (state, row) = (self.state.row(), self.row.row());
+        let State { next, listed, noted, picks } = ours;
+        assert_eq!(state[..6], [self.k as u64, h as u64, *next, listed.len() as u64, noted.len() as u64, *picks], "the state of {} beside {h}", self.k);
+        assert_eq!(row[..listed.len()], *listed, "the pages of the round of {} beside {h}", self.k);
+        assert_eq!(row[self.k + 1..][..noted.len()], *noted, "the pages picked of {} beside {h}", self.k);
+    }
 }
 
 /// What is shown with something wrong in it.
@@ -129,6 +138,7 @@ fn challenged(random: &mut Random, tally: &mut Tally, k: usize, h: usize, rounds
         let page = ours.ask(&shown);
         assert_eq!(stand.step(&shown), Answer::Page(page), "request {} of {k} beside {h}", trace.len());
         assert!(!shown.contains(&page), "page {page} is shown and is requested");
+        stand.stands(h, &ours.state());
         trace.push(page);
         policy.serve(random, page);
     }
@@ -163,8 +173,10 @@ fn begun(random: &mut Random, tally: &mut Tally) {
     };
     assert_eq!(answer, expected, "begin of {k} beside {h} on {lens:?}");
     if expected != Answer::Done(0) {
-        assert_eq!(after.row(), before.row(), "the state after a refusal");
+        return assert_eq!(after.row(), before.row(), "the state after a refusal");
     }
+    let begun = [&[k as u64, h as u64, 1, 0, 0, 0, 0, 0][..], &before.row()[8..]].concat();
+    assert_eq!(after.row(), begun, "the state of {k} beside {h}");
 }
 
 /// Whether the first eight numbers are those of a challenge, and its row is long enough: the table of docs/FORMATS.md.
@@ -235,9 +247,51 @@ fn stepped(random: &mut Random, tally: &mut Tally, state: &[u64], row: &[u64]) {
         None => Answer::Page(state[2]),
     };
     assert_eq!(answer, expected, "step at {state:?} on {row:?} where {shown:?} is shown");
-    if !matches!(answer, Answer::Page(_)) {
-        assert_eq!((a.row(), b.row()), (state, row), "the rows after a refusal");
+    let Answer::Page(page) = answer else {
+        return assert_eq!((a.row(), b.row()), (state, row), "the rows after a refusal");
+    };
+    let noted = &row[k + 1..][..state[4] as usize];
+    if (1..noted.len()).any(|i| noted[..i].contains(&noted[i])) {
+        // No challenge comes there, and docs/FORMATS.md does not say what its list is at the end of the round.
+        return;
     }
+    let (state_after, row_after) = entered(state, row, &shown, page);
+    assert_eq!(a.row(), state_after, "the state after {page} was requested at {state:?} on {row:?}");
+    for (at, number) in row_after {
+        assert_eq!(b.row()[at], number, "number {at} of the row after {page} was requested at {state:?} on {row:?}");
+    }
+    assert_eq!(b.row()[3 * k + 1..], row[3 * k + 1..], "beyond the row");
+}
+
+/// The state row after a request, and those numbers of the adversary row that it gives a meaning, each with its place.
+fn entered(state: &[u64], row: &[u64], shown: &[u64], page: u64) -> (Vec<u64>, Vec<(usize, u64)>) {
+    let [k, h, next, listed, noted, picks] = [0, 1, 2, 3, 4, 5].map(|i| state[i] as usize);
+    let mut list = row[..listed].to_vec();
+    let mut picked = row[k + 1..][..noted].to_vec();
+    let mut counts = (next, picks);
+    let was_new = listed <= k;
+    if was_new {
+        list.push(page);
+        counts.0 += 1;
+    } else {
+        counts.1 += 1;
+        if !picked.contains(&page) {
+            picked.push(page);
+        }
+    }
+    // The round is over after its last new page where the schedule has one place, and else after h - 1 picks.
+    if list.len() == k + 1 && (if was_new { picks + 1 } else { picks + 2 }) >= h {
+        let mut seen = std::collections::HashSet::new();
+        let all = picked.iter().copied().chain([counts.0 as u64 - 1]).chain(list.iter().copied());
+        list = all.filter(|page| seen.insert(*page)).take(h).collect();
+        picked.clear();
+        counts.1 = 0;
+    }
+    let numbers = [k, h, counts.0, list.len(), picked.len(), counts.1, shown.len()].map(|n| n as u64);
+    let mut places: Vec<(usize, u64)> = list.into_iter().enumerate().collect();
+    places.extend(picked.into_iter().enumerate().map(|(i, page)| (k + 1 + i, page)));
+    places.extend(shown.iter().enumerate().map(|(i, page)| (2 * k + 1 + i, *page)));
+    ([&numbers[..], &[page], &state[8..]].concat(), places)
 }
 
 /// `dq_contest` with anything: whole challenges of the library's policies.
@@ -275,6 +329,16 @@ fn contested(random: &mut Random, tally: &mut Tally) {
     assert_eq!(after.row(), [&counts, &before.row()[3..]].concat(), "the counts of {k} places beside {h}");
 }
 
+/// The most rounds there can be, against each policy.
+fn most_rounds(tally: &mut Tally) {
+    for number in 0..3 {
+        let mut counts = Lent::new(&[0; 3]);
+        assert_eq!(boundary::contest(number, 3, 2, u16::MAX, &mut counts), Answer::Done(2 + 3 * 65535), "policy {number}, 65,535 rounds");
+        assert_eq!(counts.row(), [2 + 3 * 65535, 2 + 3 * 65535, 2 + 2 * 65535], "policy {number}, 65,535 rounds");
+        tally.add("dq_contest: 65,535 rounds");
+    }
+}
+
 pub fn run(random: &mut Random, tally: &mut Tally) {
     for _ in 0..3_000 {
         let k = random.between(1, 12);
@@ -291,6 +355,7 @@ pub fn run(random: &mut Random, tally: &mut Tally) {
     for _ in 0..5_000 {
         contested(random, tally);
     }
+    most_rounds(tally);
     tally.need(200, &["dq_begin: done", "dq_begin: refused 1 at 0", "dq_begin: refused 6", "challenges played to their end"]);
     tally.need(200, &["dq_step: page", "dq_step: refused 1 at 0", "dq_step: refused 7", "dq_step: refused 8"]);
     tally.need(200, &["dq_accept: done", "dq_accept: refused 1 at 0", "dq_accept: refused 7"]);

@@ -1,5 +1,7 @@
 //! The programs as a person runs them, on files and on pipes: what they print, what they say on standard error, and their status.
 
+mod closings;
+mod streams;
 mod texts;
 
 use crate::adversary::Adversary;
@@ -7,7 +9,7 @@ use crate::caches::{self, Cache, Rule};
 use crate::random::Random;
 use crate::tally::Tally;
 use std::cell::Cell;
-use std::fs::{self, File, OpenOptions};
+use std::fs;
 use std::io::Write;
 use std::os::unix::process::ExitStatusExt;
 use std::path::{Path, PathBuf};
@@ -269,20 +271,6 @@ fn calls(program: &'static str, folder: &str) -> Vec<Case> {
     ]
 }
 
-/// Standard output that takes nothing: a full device, and a pipe that nobody reads. A program tells both, since the signal for such a pipe is ignored.
-fn closed(programs: &Programs, tally: &mut Tally, program: &'static str, input: &[u8]) {
-    let words = [programs.file("closed", input)];
-    let case = |kind, err: String, status| Case { kind, program, words: words.to_vec(), input: vec![], out: String::new(), err, status };
-    let full: File = OpenOptions::new().write(true).open("/dev/full").expect("/dev/full");
-    let output = programs.command(program, &words).stdout(full).output().expect("a program that runs");
-    let told = |why: &str| format!("{program}: cannot write to standard output: {why}\n");
-    programs.check(tally, &case("a full device", told("No space left on device (os error 28)"), 1), &output);
-    let (reader, writer) = std::io::pipe().expect("a pipe");
-    drop(reader);
-    let output = programs.command(program, &words).stdout(writer).output().expect("a program that runs");
-    programs.check(tally, &case("a pipe that nobody reads", told("Broken pipe (os error 32)"), 1), &output);
-}
-
 pub fn run(random: &mut Random, tally: &mut Tally, programs: &Programs) {
     for _ in 0..150 {
         let case = random_day(random, 120);
@@ -301,8 +289,8 @@ pub fn run(random: &mut Random, tally: &mut Tally, programs: &Programs) {
         }
     }
     texts::run(random, tally, programs);
-    closed(programs, tally, "play", &day_bytes(3, 4, &[1, 2, 3]));
-    closed(programs, tally, "challenge", &[3, 0, 3, 0, 9, 0, 0]);
+    closings::run(random, tally, programs);
+    streams::run(random, tally, programs);
     tally.need(30, &["play: whole days", "play: days that end inside a request", "play: days that end inside the header"]);
     tally.need(30, &["challenge: challenges", "challenge: challenges with damaged settings"]);
 }

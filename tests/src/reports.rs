@@ -25,6 +25,9 @@ fn reported(random: &mut Random, tally: &mut Tally, trace: &[u64], m: usize, row
     tally.answer("dq_report", answer);
     if let Some(reason) = refusal(trace, m, row_len) {
         assert_eq!(answer, Answer::refused(reason), "report of {} requests for {m} capacities", trace.len());
+        if reason.0 == 5 {
+            tally.add(if (1..=4096).contains(&m) { "dq_report: refused 5, for the row" } else { "dq_report: refused 5, for the capacities" });
+        }
         assert_eq!(after.row(), before.row(), "the report row after a refusal");
         return;
     }
@@ -73,5 +76,6 @@ pub fn run(random: &mut Random, tally: &mut Tally) {
         reported(random, tally, &trace, m, 2 * m);
         tally.add("dq_report: long days");
     }
-    tally.need(200, &["dq_report: done", "dq_report: refused 3", "dq_report: refused 4", "dq_report: refused 5"]);
+    tally.need(200, &["dq_report: done", "dq_report: refused 3", "dq_report: refused 4"]);
+    tally.need(200, &["dq_report: refused 5, for the capacities", "dq_report: refused 5, for the row"]);
 }

@@ -46,14 +46,17 @@ fn row_of(k: usize, pages: &[u64], before: &[u64]) -> Vec<u64> {
     row
 }
 
-/// The pages of an index row, by its ring from slot 0 (docs/ARCHITECTURE.md, "recency").
+/// The pages of an index row, by its ring from slot 0 (docs/ARCHITECTURE.md, "recency"): five numbers for each slot, of which the first says which
+/// slot was used before it, the second which after it, and the third its page; the fourth of slot 0 says how many slots hold a page.
 fn indexed(index: &[u64]) -> Vec<u64> {
     let mut pages = Vec::new();
-    let mut slot = index[2] as usize;
-    while slot != 0 && pages.len() <= index[0] as usize {
-        pages.push(index[4 + 3 * slot]);
-        slot = index[2 + 3 * slot] as usize;
+    let (mut newer, mut slot) = (0, index[0] as usize);
+    while slot != 0 && pages.len() <= index[3] as usize {
+        assert_eq!(index[5 * slot + 1], newer, "the slot used after slot {slot}");
+        pages.push(index[5 * slot + 2]);
+        (newer, slot) = (slot as u64, index[5 * slot] as usize);
     }
+    assert!(index[1] == newer && index[3] == pages.len() as u64, "the other end of the ring, and how many slots there are");
     pages
 }
 
@@ -258,6 +261,12 @@ fn long(random: &mut Random, tally: &mut Tally, k: usize) {
         assert_eq!(rows.0.row(), row_of(k, &ours.pages(), rows.0.row()), "the cache row of {k} places");
         rest = more;
     }
+    let mut bad = trace;
+    let at = random.between(0, bad.len() - 1);
+    bad[at] = wide(random);
+    let before = rows.clone();
+    assert_eq!(boundary::play(&mut rows.0, &mut rows.1, &bad), Answer::refused((3, bad[at])), "a long trace with {} at {at}", bad[at]);
+    same((&before.0, &before.1), (&rows.0, &rows.1));
     tally.add("long traces, 100,000 requests each");
 }
 

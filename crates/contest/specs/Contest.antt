@@ -6,16 +6,20 @@
 --     Refused stop P                 P holds of the refusal that is why there are no further requests; else there was no memory
 --     Halted ..                      the adversary refused, after so many requests that were made and told, for this reason
 --     fault_of stop                  the fault of a challenge that stopped
-use Rattle.std.specs.Prelude.{◌≡◌, ℕ, zero, suc, ◌<◌, List, [], ◌∷◌, ◌++◌, Some}
+--     last_line ended                the line at the end of a challenge, with its line break: the counts, or why it was refused; of another fault nothing
+use Rattle.std.specs.Prelude.{◌≡◌, ℕ, zero, suc, ◌<◌, List, [], ◌∷◌, ◌++◌, Some, Ok, Err, Result}
 use Rattle.paging.specs.Policies.{Policy}
 use Rattle.paging.specs.Stepwise.{Play, next_request, step, plays}
 use Rattle.adversary.specs.Places.{position_in}
 use Rattle.adversary.specs.Runs.{Led}
 use Rattle.adversary.specs.Steps.{refusal_in, if_long}
 use Rattle.adversary.specs.declared.challenge.Challenge.{Challenge}
+use Rattle.lru_cache.specs.Refusals.{refusal_bytes}
 use Rattle.lru_cache.specs.declared.refusals.Refusal.{Refusal}
 use Rattle.telling.specs.Told.{said}
 use Rattle.trace.specs.Lines.{line_bytes}
+use Rattle.trace.specs.Totals.{totals_bytes}
+use Rattle.trace.specs.declared.totals.Totals.{Totals}
 use Rattle.contest.specs.declared.faults.Fault.{Fault}
 use Rattle.contest.specs.declared.faults.Fault.TheVariants as fault
 use Rattle.lru_cache.specs.declared.stops.Stop.{Stop}
@@ -57,3 +61,8 @@ pub record Halted (policy : Policy) (n : ℕ) (c : Challenge) (row text : List �
 abbrev pub fault_of : Stop → Fault
 fault_of (stop.Refused refusal) = fault.Refused refusal
 fault_of stop.Memory = fault.Memory
+
+abbrev pub last_line : Result Totals Fault → List ℕ
+last_line (Ok totals) = totals_bytes totals ++ (10 ∷ [])
+last_line (Err (fault.Refused refusal)) = refusal_bytes refusal ++ (10 ∷ [])
+last_line (Err other) = []

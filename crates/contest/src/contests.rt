@@ -1,9 +1,11 @@
 // A whole challenge, written in large pieces.
-ghost use Rattle.std.specs.Prelude.{◌≡◌, [], IfOk, string_bytes, OnOk};
+ghost use Rattle.std.specs.Prelude.{◌≡◌, [], length, IfOk, Some, MatchResult, string_bytes, OnOk};
 ghost use Rattle.paging.specs.Adversary.{adversary};
 ghost use Rattle.paging.specs.Policies.{history_after};
+ghost use Rattle.adversary.specs.Begins.{Begun, unfit};
 ghost use Rattle.adversary.specs.Runs.{Led};
-ghost use Rattle.contest.specs.Contest.{Turned};
+ghost use Rattle.telling.specs.Told.{totals_of};
+ghost use Rattle.contest.specs.Contest.{Turned, last_line};
 
 use crate::faults::Fault;
 use crate::turns::play;
@@ -29,6 +31,17 @@ struct Teller<W> {
     out: W,
     // the lines that are not written yet
     text: String,
+}
+
+// A challenge of the settings' places, before its first request.
+fn begin(settings: Settings, row: &[u64]) -> Result<Challenge, Refusal>
+    ensures cases { MatchResult result (λ c. Begun settings.capacity settings.places row.now c) (λ e. unfit settings.capacity settings.places (length row.now) ≡ Some e) }
+{
+    Challenge::begin(
+        usize::from(settings.capacity),
+        usize::from(settings.places),
+        row,
+    )
 }
 
 impl<W: Write + Drop> Teller<W> {
@@ -69,43 +82,58 @@ impl<W: Write + Drop> Teller<W> {
         row: &mut [u64],
     ) -> Result<Totals, Fault>
         ensures led { IfOk result (λ _. Led (P.policy keeper.old) (history_after [] (adversary settings.capacity settings.places (P.policy keeper.old) settings.rounds)) (P.policy keeper.new)) }
+        ensures totals { IfOk result (λ t. t ≡ totals_of settings.capacity settings.places settings.rounds) }
     {
         let k = usize::from(settings.capacity);
         let h = usize::from(settings.places);
         let rounds = usize::from(settings.rounds);
-        let begun = Challenge::begin(k, h, row)?;
+        let begun = begin(settings, row)?;
         let ended = self.play_out(keeper, begun, row, h + rounds * k)?;
         ended.accept(row, keeper.shown())?;
         Ok(count(k, h, rounds))
     }
 
-    // Challenges a policy with as many places as the settings say.
-    fn challenge<P: Policy>(&mut self, keeper: &mut P, settings: Settings) -> Result<(), Fault>
-        ensures led { OnOk result (Led (P.policy keeper.old) (history_after [] (adversary settings.capacity settings.places (P.policy keeper.old) settings.rounds)) (P.policy keeper.new)) }
+    // The same without the lines.
+    fn run_quiet<P: Policy>(
+        keeper: &mut P,
+        settings: Settings,
+        row: &mut [u64],
+    ) -> Result<Totals, Fault>
+        ensures led { IfOk result (λ _. Led (P.policy keeper.old) (history_after [] (adversary settings.capacity settings.places (P.policy keeper.old) settings.rounds)) (P.policy keeper.new)) }
+        ensures totals { IfOk result (λ t. t ≡ totals_of settings.capacity settings.places settings.rounds) }
     {
         let k = usize::from(settings.capacity);
         let h = usize::from(settings.places);
-        let mut row = vec![in self.heap; 0u64; row_len(k).ok_or(Refusal::NoCache)?]?;
-        let totals = match self.detail {
-            Detail::Requests => self.run_told(keeper, settings, &mut row)?,
-            Detail::Summary => {
-                let ran = run(keeper, k, h, u32::from(settings.rounds), &mut row);
-                ran.map_err(|stopped| stopped.refusal)?
-            }
-        };
-        writeln!(self.text, "{totals}")?;
-        self.write_out()
+        let ran = run(keeper, k, h, u32::from(settings.rounds), row);
+        Ok(ran.map_err(|stopped| stopped.refusal)?)
+    }
+
+    // Challenges a policy with as many places as the settings say.
+    fn challenge<P: Policy>(&mut self, keeper: &mut P, settings: Settings) -> Result<Totals, Fault>
+        ensures led { IfOk result (λ _. Led (P.policy keeper.old) (history_after [] (adversary settings.capacity settings.places (P.policy keeper.old) settings.rounds)) (P.policy keeper.new)) }
+        ensures totals { IfOk result (λ t. t ≡ totals_of settings.capacity settings.places settings.rounds) }
+    {
+        let len = row_len(usize::from(settings.capacity)).ok_or(Refusal::NoCache)?;
+        let mut row = vec![in self.heap; 0u64; len]?;
+        match self.detail {
+            Detail::Requests => self.run_told(keeper, settings, &mut row),
+            Detail::Summary => Self::run_quiet(keeper, settings, &mut row),
+        }
     }
 
     // A policy of that kind, challenged.
-    fn challenge_new<P: WithCapacity + Drop>(&mut self, settings: Settings) -> Result<(), Fault> {
+    fn challenge_new<P: WithCapacity + Drop>(&mut self, settings: Settings) -> Result<Totals, Fault>
+        ensures totals { IfOk result (λ t. t ≡ totals_of settings.capacity settings.places settings.rounds) }
+    {
         let mut keeper = P::with_capacity(self.heap, usize::from(settings.capacity))?;
         self.challenge(&mut keeper, settings)
     }
 
     // The policy that the settings name, challenged. The match stands here and in `ffi`: a policy is a type parameter, and no function hands a
     // type out.
-    fn challenge_named(&mut self, settings: Settings) -> Result<(), Fault> {
+    fn challenge_named(&mut self, settings: Settings) -> Result<Totals, Fault>
+        ensures totals { IfOk result (λ t. t ≡ totals_of settings.capacity settings.places settings.rounds) }
+    {
         match PolicyKind::try_from(settings.policy)? {
             PolicyKind::Lru => self.challenge_new::<Lru>(settings),
             PolicyKind::Fifo => self.challenge_new::<Fifo>(settings),
@@ -113,15 +141,18 @@ impl<W: Write + Drop> Teller<W> {
         }
     }
 
-    // The policy that the settings name, challenged, or the line that says why it is refused.
-    fn contest(mut self, settings: Settings) -> Result<(), Fault> {
-        match self.challenge_named(settings) {
-            Err(Fault::Refused(refusal)) => {
-                writeln!(self.text, "{refusal}")?;
-                self.write_out()
-            }
-            other => other,
+    // Writes the last line, which the text then holds: the counts, or why the challenge is refused.
+    fn tell_end(&mut self, ended: Result<Totals, Fault>) -> Result<(), Fault>
+        ensures line { OnOk result (string_bytes self.new.text ≡ last_line ended) }
+    {
+        self.text.clear();
+        match ended {
+            Ok(totals) => writeln!(self.text, "{totals}")?,
+            Err(Fault::Refused(refusal)) => writeln!(self.text, "{refusal}")?,
+            Err(fault) => return Err(fault),
         }
+        self.out.write_all(self.text.as_bytes())?;
+        Ok(())
     }
 }
 
@@ -133,13 +164,14 @@ pub fn contest_told<W: Write>(
     detail: Detail,
     out: &mut W,
 ) -> Result<(), Fault> {
-    let teller = Teller {
+    let mut teller = Teller {
         heap,
         detail,
         out,
         text: String::new(heap),
     };
-    teller.contest(settings)
+    let ended = teller.challenge_named(settings);
+    teller.tell_end(ended)
 }
 
 // Challenges the policy that the settings name, and writes a line for each request and one for the counts at the end, or one that says why

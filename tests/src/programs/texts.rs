@@ -3,8 +3,11 @@
 use super::{Case, POLICIES, Programs, challenge_lines, day_bytes, report_lines, served_lines, small_or_edge, status};
 use crate::random::Random;
 use crate::tally::Tally;
+use std::ffi::OsStr;
+use std::os::unix::ffi::OsStrExt;
 
-const BAD: [&str; 7] = ["abc", "-1", "+5", "5.0", "4294967296", "00123x", "18446744073709551616000000000000000000000000"];
+const BAD: [&str; 10] =
+    ["abc", "-1", "+5", "5.0", "4294967296", "00123x", "18446744073709551616000000000000000000000000", "a\0b\u{7f}", "\u{e9}1", "1\u{feff}"];
 
 fn words(line: &str) -> Vec<String> {
     line.split_whitespace().map(|word| word.to_string()).collect()
@@ -19,6 +22,10 @@ fn gap(random: &mut Random) -> &'static str {
 fn text_of(random: &mut Random, trace: &[u64]) -> String {
     let mut text = if random.one_in(2) { String::new() } else { gap(random).to_string() };
     for page in trace {
+        // The mark that some programs write in front of a text, which may be several texts by now.
+        if random.one_in(9) {
+            text += "\u{feff}";
+        }
         if random.one_in(9) {
             text += "000";
         }
@@ -33,7 +40,8 @@ fn text_of(random: &mut Random, trace: &[u64]) -> String {
 
 /// As much of a word as is told.
 fn told(word: &str) -> String {
-    if word.len() > 40 { format!("{}...", &word[..40]) } else { word.to_string() }
+    let some = word.bytes().take(40).map(|byte| if matches!(byte, b' '..=b'~') { byte as char } else { '?' });
+    some.collect::<String>() + if word.len() > 40 { "..." } else { "" }
 }
 
 /// A day as text, and now and then a word in it that is no page.
@@ -71,6 +79,22 @@ fn random_text(random: &mut Random, longest: usize) -> Case {
         case.err = format!("NAME:{number}: '{}' is not a page number (0 to 4294967295)\n", told(word));
         case.status = 1;
     }
+    case
+}
+
+/// A text with a word that is no page, to be turned into bytes: those of the pages before it are written.
+fn packed_in_part(random: &mut Random) -> Case {
+    let (k, m) = (random.between(1, 4096) as u16, random.between(1, 4096) as u16);
+    let mut case = random_text(random, 60);
+    while case.status == 0 {
+        case = random_text(random, 60);
+    }
+    let pages: Vec<u64> = case.out.lines().map(|line| line.split(':').next().expect("a page").parse().expect("a page")).collect();
+    let packed = day_bytes(k, m, &pages);
+    case.words = words(&format!("--pack --places {k} --report {m}"));
+    case.kind = "text with a word that is no page, packed";
+    // Not text, so it is compared as it would be shown.
+    case.out = String::from_utf8_lossy(&packed).into_owned();
     case
 }
 
@@ -136,33 +160,63 @@ fn asked(random: &mut Random) -> Case {
     case
 }
 
-/// Wrong arguments, and what is said of them.
-const WRONG: [(&str, &str, &str); 13] = [
+/// Wrong arguments, and what is said of them. `''` is an empty word.
+const WRONG: [(&str, &str, &str); 34] = [
     ("play", "--foo", "play: unknown option '--foo' (see play --help)"),
+    ("play", "-h", "play: unknown option '-h' (see play --help)"),
+    ("play", "--", "play: unknown option '--' (see play --help)"),
+    ("play", "--places=3", "play: unknown option '--places=3' (see play --help)"),
+    ("play", "--help --foo", "play: unknown option '--foo' (see play --help)"),
     ("play", "--places x", "play: --places needs a number from 1 to 4096, not 'x'"),
+    ("play", "--places ''", "play: --places needs a number from 1 to 4096, not ''"),
+    ("play", "--places -5", "play: --places needs a number from 1 to 4096, not '-5'"),
+    ("play", "--places 18446744073709551617", "play: --places needs a number from 1 to 4096, not '18446744073709551617'"),
     ("play", "--places 0 day.txt", "play: --places needs a number from 1 to 4096, not '0'"),
     ("play", "--report 4097", "play: --report needs a number from 1 to 4096, not '4097'"),
     ("play", "--text --report +5", "play: --report needs a number from 1 to 4096, not '+5'"),
     ("play", "--text --places", "play: --places needs a number from 1 to 4096"),
     ("play", "--svg --text", "play: --svg needs a file name, not '--text'"),
+    ("play", "--svg -", "play: --svg needs a file name, not '-'"),
+    ("play", "--svg ''", "play: --svg needs a file name, not ''"),
+    ("play", "--svg", "play: --svg needs a file name"),
     ("play", "--unpack --text", "play: --unpack does not go with --text"),
+    ("play", "--pack --unpack", "play: --unpack does not go with --pack"),
+    ("play", "--summary --unpack", "play: --unpack does not go with --summary"),
+    ("play", "--unpack --svg x.svg", "play: --unpack does not go with --svg"),
+    ("play", "--pack --summary", "play: --pack does not go with --summary"),
+    ("play", "--pack --svg x.svg", "play: --pack does not go with --svg"),
     ("play", "--text a b", "play: argument 3: there may be one file at most"),
+    ("play", "a --text b", "play: argument 3: there may be one file at most"),
     ("challenge", "--text", "challenge: unknown option '--text' (see challenge --help)"),
+    ("challenge", "-h", "challenge: unknown option '-h' (see challenge --help)"),
     ("challenge", "--policy mru", "challenge: --policy needs lru, fifo or lfu, not 'mru'"),
+    ("challenge", "--policy", "challenge: --policy needs lru, fifo or lfu"),
     ("challenge", "--rounds 65536", "challenge: --rounds needs a number from 0 to 65535, not '65536'"),
+    ("challenge", "--rounds", "challenge: --rounds needs a number from 0 to 65535"),
+    ("challenge", "--rival 0", "challenge: --rival needs a number from 1 to 4096, not '0'"),
     ("challenge", "--rival", "challenge: --rival needs a number from 1 to 4096"),
+    ("challenge", "--summary a b", "challenge: argument 3: there may be one file at most"),
 ];
 
 fn wrong(tally: &mut Tally, programs: &Programs) {
     for (program, line, err) in WRONG {
-        let case = Case { kind: "wrong arguments", program, words: words(line), input: vec![], out: String::new(), err: format!("{err}\n"), status: 1 };
+        let words = words(line).iter().map(|word| word.trim_matches('\'').to_string()).collect();
+        let case = Case { kind: "wrong arguments", program, words, input: vec![], out: String::new(), err: format!("{err}\n"), status: 1 };
         programs.run(tally, &case);
+    }
+    for program in ["play", "challenge"] {
+        let err = format!("{program}: cannot read the arguments: invalid data\n");
+        let case = Case { kind: "an argument that is not text", program, words: vec![], input: vec![], out: String::new(), err, status: 1 };
+        let output = programs.command(program, &[]).arg(OsStr::from_bytes(b"day\xff")).output().expect("a program that runs");
+        programs.check(tally, &case, &output);
     }
 }
 
 /// A page that fits a screen.
 fn help(tally: &mut Tally, programs: &Programs, program: &str) {
     let output = programs.fed(program, &words("--help"), &[], 1);
+    let with_more = programs.fed(program, &words("--places 3 --help none"), &[], 1);
+    assert!(with_more.stdout == output.stdout && with_more.status.success(), "{program} --help beside others");
     let page = String::from_utf8(output.stdout).expect("a page that is text");
     assert!(page.starts_with(&format!("usage: {program} [OPTION].. [FILE]\n")) && output.status.success(), "{program} --help");
     assert!(page.lines().count() <= 24 && page.lines().all(|line| line.len() <= 80), "{program} --help fits no screen");
@@ -177,6 +231,8 @@ pub fn run(random: &mut Random, tally: &mut Tally, programs: &Programs) {
         programs.run_input(random, tally, case);
         there_and_back(random, tally, programs, 200);
         programs.run(tally, &asked(random));
+        let case = packed_in_part(random);
+        programs.run_input(random, tally, case);
     }
     for _ in 0..4 {
         let case = random_text(random, 40_000);
