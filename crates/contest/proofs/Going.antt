@@ -31,6 +31,12 @@ pub turned_none : (policy : Policy) (c : Challenge) (row : List ℕ) → Turned 
 unfolding plays
 turned_none policy c row = record { position = refl; led = λ further. ap policy (sym (append-nil further)); k_is = refl; h_is = refl }
 
+-- so many requests, told by another sum
+pub turned_same :
+    {policy : Policy} {n m : ℕ} {c : Challenge} {row : List ℕ} {after : Policy} {c' : Challenge} {row' : List ℕ} →
+    n ≡ m → Turned policy n c row after c' row' → Turned policy m c row after c' row'
+turned_same e t = rw (← e) t
+
 module _ {policy now later : Policy} {n m : ℕ} {c c' c'' : Challenge} {row row' row'' : List ℕ} where
   pub turned_more :
       (total : ℕ) → total ≡ n + m → Turned policy n c row now c' row' → Turned now m c' row' later c'' row'' →

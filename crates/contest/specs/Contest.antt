@@ -6,9 +6,12 @@
 --     Refused stop P                 P holds of the refusal that is why there are no further requests; else there was no memory
 --     Halted ..                      the adversary refused, after so many requests that were made and told, for this reason
 --     fault_of stop                  the fault of a challenge that stopped
+--     Ended s policy after totals    a challenge of the settings s made to its end: the policy was given exactly the adversary's opening and
+--                                    rounds, and these are the counts
 --     last_line ended                the line at the end of a challenge, with its line break: the counts, or why it was refused; of another fault nothing
 use Rattle.std.specs.Prelude.{◌≡◌, ℕ, zero, suc, ◌<◌, List, [], ◌∷◌, ◌++◌, Some, Ok, Err, Result}
-use Rattle.paging.specs.Policies.{Policy}
+use Rattle.paging.specs.Adversary.{adversary}
+use Rattle.paging.specs.Policies.{Policy, history_after}
 use Rattle.paging.specs.Stepwise.{Play, next_request, step, plays}
 use Rattle.adversary.specs.Places.{position_in}
 use Rattle.adversary.specs.Runs.{Led}
@@ -16,9 +19,10 @@ use Rattle.adversary.specs.Steps.{refusal_in, if_long}
 use Rattle.adversary.specs.declared.challenge.Challenge.{Challenge}
 use Rattle.lru_cache.specs.Refusals.{refusal_bytes}
 use Rattle.lru_cache.specs.declared.refusals.Refusal.{Refusal}
-use Rattle.telling.specs.Told.{said}
+use Rattle.telling.specs.Told.{said, totals_of}
 use Rattle.trace.specs.Lines.{line_bytes}
 use Rattle.trace.specs.Totals.{totals_bytes}
+use Rattle.trace.specs.declared.settings.Settings.{Settings}
 use Rattle.trace.specs.declared.totals.Totals.{Totals}
 use Rattle.contest.specs.declared.faults.Fault.{Fault}
 use Rattle.contest.specs.declared.faults.Fault.TheVariants as fault
@@ -61,6 +65,10 @@ pub record Halted (policy : Policy) (n : ℕ) (c : Challenge) (row text : List �
 abbrev pub fault_of : Stop → Fault
 fault_of (stop.Refused refusal) = fault.Refused refusal
 fault_of stop.Memory = fault.Memory
+
+pub record Ended (s : Settings) (policy after : Policy) (totals : Totals) : Type 0 where
+  pub led : Led policy (history_after [] (adversary s.capacity s.places policy s.rounds)) after
+  pub counted : totals ≡ totals_of s.capacity s.places s.rounds
 
 abbrev pub last_line : Result Totals Fault → List ℕ
 last_line (Ok totals) = totals_bytes totals ++ (10 ∷ [])

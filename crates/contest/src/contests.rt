@@ -1,11 +1,8 @@
 // A whole challenge, written in large pieces.
 ghost use Rattle.std.specs.Prelude.{◌≡◌, [], length, IfOk, Some, MatchResult, string_bytes, OnOk};
-ghost use Rattle.paging.specs.Adversary.{adversary};
-ghost use Rattle.paging.specs.Policies.{history_after};
 ghost use Rattle.adversary.specs.Begins.{Begun, unfit};
-ghost use Rattle.adversary.specs.Runs.{Led};
 ghost use Rattle.telling.specs.Told.{totals_of};
-ghost use Rattle.contest.specs.Contest.{Turned, last_line};
+ghost use Rattle.contest.specs.Contest.{Turned, Ended, last_line};
 
 use crate::faults::Fault;
 use crate::turns::play;
@@ -81,8 +78,7 @@ impl<W: Write + Drop> Teller<W> {
         settings: Settings,
         row: &mut [u64],
     ) -> Result<Totals, Fault>
-        ensures led { IfOk result (λ _. Led (P.policy keeper.old) (history_after [] (adversary settings.capacity settings.places (P.policy keeper.old) settings.rounds)) (P.policy keeper.new)) }
-        ensures totals { IfOk result (λ t. t ≡ totals_of settings.capacity settings.places settings.rounds) }
+        ensures ended { IfOk result (Ended settings (P.policy keeper.old) (P.policy keeper.new)) }
     {
         let k = usize::from(settings.capacity);
         let h = usize::from(settings.places);
@@ -99,8 +95,7 @@ impl<W: Write + Drop> Teller<W> {
         settings: Settings,
         row: &mut [u64],
     ) -> Result<Totals, Fault>
-        ensures led { IfOk result (λ _. Led (P.policy keeper.old) (history_after [] (adversary settings.capacity settings.places (P.policy keeper.old) settings.rounds)) (P.policy keeper.new)) }
-        ensures totals { IfOk result (λ t. t ≡ totals_of settings.capacity settings.places settings.rounds) }
+        ensures ended { IfOk result (Ended settings (P.policy keeper.old) (P.policy keeper.new)) }
     {
         let k = usize::from(settings.capacity);
         let h = usize::from(settings.places);
@@ -110,8 +105,7 @@ impl<W: Write + Drop> Teller<W> {
 
     // Challenges a policy with as many places as the settings say.
     fn challenge<P: Policy>(&mut self, keeper: &mut P, settings: Settings) -> Result<Totals, Fault>
-        ensures led { IfOk result (λ _. Led (P.policy keeper.old) (history_after [] (adversary settings.capacity settings.places (P.policy keeper.old) settings.rounds)) (P.policy keeper.new)) }
-        ensures totals { IfOk result (λ t. t ≡ totals_of settings.capacity settings.places settings.rounds) }
+        ensures ended { IfOk result (Ended settings (P.policy keeper.old) (P.policy keeper.new)) }
     {
         let len = row_len(usize::from(settings.capacity)).ok_or(Refusal::NoCache)?;
         let mut row = vec![in self.heap; 0u64; len]?;
