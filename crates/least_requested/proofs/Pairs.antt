@@ -1,12 +1,19 @@
 -- Two rows side by side as entries: what stands at a place, the entry of a page taken out, and the least requested taken out.
-use Rattle.std.proofs.Common.{◌≡◌, ℕ, zero, suc, ◌<◌, ◌≤◌, min, Bool, true, false, cond, eqb, ltb, List, [], ◌∷◌, length, get_or, refl, ap, ◌∙◌, arith}
+use Rattle.std.proofs.Common.{◌≡◌, ℕ, zero, suc, ◌+◌, ◌<◌, ◌≤◌, min, max, Bool, true, false, cond, eqb, ltb, List, [], ◌∷◌, length, get_or, take, refl, ap, ◌∙◌, arith}
 use Rattle.std.specs.List.{remove}
+use Rattle.std.proofs.lemmas.List.{length-take}
 use Rattle.std.proofs.lemmas.Bool.Decides.{nat_tests}
 use Rattle.paging.specs.Failing.{Entry, pages_in, count_of, others, fewest, counted, spared}
 use Rattle.paging.specs.Lists.{has, distinct, place}
 use Rattle.paging.proofs.Entries.{others_absent}
 use Rattle.paging.proofs.Fewest.{fewest_counted}
-use Rattle.least_requested.specs.Counting.{paired, last_least}
+use Rattle.least_requested.specs.Counting.{entry, paired, last_least}
+
+pub level_front : (n : ℕ) (pages counts : List ℕ) → length counts ≡ length pages → length (take n counts) ≡ length (take n pages)
+level_front n pages counts e =
+    let l = length-take n pages in
+    let r = length-take n counts in
+    omega arith
 
 pub pages_paired : (pages counts : List ℕ) → length counts ≡ length pages → pages_in (paired pages counts) ≡ pages
 unfolding paired pages_in
@@ -20,14 +27,31 @@ length_paired [] counts e = refl
 length_paired (x ∷ xs) [] e = absurd (omega arith)
 length_paired (x ∷ xs) (c ∷ cs) e = ap suc (length_paired xs cs (omega arith))
 
-pub paired_removed :
-    (pages counts : List ℕ) (at : ℕ) → length counts ≡ length pages → at < length pages →
-    paired (remove pages at) (remove counts at) ≡ remove (paired pages counts) at
+paired_removed : (pages counts : List ℕ) (at : ℕ) → length counts ≡ length pages → paired (remove pages at) (remove counts at) ≡ remove (paired pages counts) at
 unfolding paired
-paired_removed [] counts at e lt = absurd (omega arith)
-paired_removed (x ∷ xs) [] at e lt = absurd (omega arith)
-paired_removed (x ∷ xs) (c ∷ cs) zero e lt = refl
-paired_removed (x ∷ xs) (c ∷ cs) (suc at) e lt = ap (λ (es : List Entry). record { page = x; count = c } ∷ es) (paired_removed xs cs at (omega arith) (omega arith))
+paired_removed [] counts zero e = refl
+paired_removed [] counts (suc at) e = refl
+paired_removed (x ∷ xs) [] at e = absurd (omega arith)
+paired_removed (x ∷ xs) (c ∷ cs) zero e = refl
+paired_removed (x ∷ xs) (c ∷ cs) (suc at) e = ap (λ (es : List Entry). entry x c ∷ es) (paired_removed xs cs at (omega arith))
+
+-- the first numbers of a row after one came to the front, in the place of one of its first n or of the next: all n of them, or one more
+front : (row : List ℕ) (n at m x : ℕ) → at ≤ n → at < length row → m ≡ max n (at + 1) → take m (x ∷ remove row at) ≡ x ∷ remove (take n row) at
+front [] n at m x le lt is = absurd (omega arith)
+front (y ∷ ys) n at zero x le lt is = absurd (omega arith)
+front (y ∷ ys) zero zero (suc m) x le lt is = let none : m ≡ 0 = omega arith in rw none refl
+front (y ∷ ys) zero (suc at) (suc m) x le lt is = absurd (omega arith)
+front (y ∷ ys) (suc n) zero (suc m) x le lt is = let same : m ≡ n = omega arith in rw same refl
+front (y ∷ ys) (suc n) (suc at) (suc m) x le lt is = ap (λ (zs : List ℕ). x ∷ zs) (front ys n at m y (omega arith) (omega arith) (omega arith))
+
+pub put_both :
+    (pages counts : List ℕ) (n at m page count : ℕ) → length counts ≡ length pages → at ≤ n → at < length pages → m ≡ max n (at + 1) →
+    paired (take m (page ∷ remove pages at)) (take m (count ∷ remove counts at)) ≡ entry page count ∷ remove (paired (take n pages) (take n counts)) at
+unfolding paired
+put_both pages counts n at m page count e le lt is =
+    let a = front pages n at m page le lt is in
+    let b = front counts n at m count le (omega arith) is in
+    rw (a, b) (ap (λ (es : List Entry). entry page count ∷ es) (paired_removed (take n pages) (take n counts) at (level_front n pages counts e)))
 
 -- the entry of a page that is there
 pub others_there :

@@ -1,18 +1,18 @@
--- A request where the least requested goes, on two rows: the page is there, there is room for it, or there is none.
-use Rattle.std.proofs.Common.{◌≡◌, [], ◌++◌, ℕ, zero, suc, ◌+◌, ◌<◌, ◌≤◌, min, Bool, true, false, cond, eqb, ltb, List, ◌∷◌, length, get_or, sym, refl, ap, ◌∙◌, arith}
+-- A request where the least requested goes, on the first n places of two rows: the page is there, there is room for it, or there is none.
+use Rattle.std.proofs.Common.{◌≡◌, ℕ, zero, suc, ◌+◌, ◌<◌, ◌≤◌, min, max, Bool, true, false, ltb, List, [], ◌∷◌, ◌++◌, length, get_or, take, sym, refl, ap, ◌∙◌, arith}
 use Rattle.std.specs.List.{remove}
-use Rattle.std.proofs.lemmas.Bool.{eqb-true}
 use Rattle.std.proofs.lemmas.Bool.Decides.{nat_tests}
+use Rattle.std.proofs.lemmas.List.{length-take}
 use Rattle.paging.specs.Failing.{Entry, pages_in, count_of, others, fewest, spared}
 use Rattle.paging.specs.Lists.{has, distinct, place}
 use Rattle.paging.proofs.Appends.{has_none}
 use Rattle.paging.proofs.Entries.{others_absent, count_absent}
-use Rattle.paging.proofs.Fewest.{spared_within}
+use Rattle.paging.proofs.Caches.{Cached}
+use Rattle.paging.proofs.Fewest.{spared_within, least_goes}
 use Rattle.policies.specs.Onward.{onward}
 use Rattle.policies.proofs.Rules.{goes_on}
 use Rattle.least_requested.specs.Counting.{entry, paired, most, served, last_least}
-use Rattle.least_requested.proofs.Leasts.{last_within}
-use Rattle.least_requested.proofs.Pairs.{pages_paired, length_paired, paired_removed, others_there, count_there, spared_least}
+use Rattle.least_requested.proofs.Pairs.{level_front, pages_paired, length_paired, put_both, others_there, count_there, spared_least}
 
 -- what a request leaves, by the two tests
 
@@ -36,6 +36,13 @@ served_full k es page absent full =
     let away : has (pages_in (spared (fewest es) es)) page ≡ false = has_none (pages_in (spared (fewest es) es)) page (λ h. let z = w h in let q : ◌≡◌ {A = Bool} true false = sym z ∙ absent in let r : ◌≡◌ {A = ℕ} 0 1 = cc in omega arith) in
     rw (absent, t, count_absent page es absent, others_absent page (spared (fewest es) es) away)
 
+-- nothing is taken out behind the last entry
+removed_past : (es : List Entry) (at : ℕ) → length es ≤ at → remove es at ≡ es
+removed_past [] zero le = refl
+removed_past [] (suc at) le = refl
+removed_past (e ∷ es) zero le = absurd (omega arith)
+removed_past (e ∷ es) (suc at) le = ap (λ (fs : List Entry). e ∷ fs) (removed_past es at (omega arith))
+
 module _ (pages counts : List ℕ) (k page : ℕ) (level : length counts ≡ length pages) where
   abbrev held : List Entry
   held = paired pages counts
@@ -45,80 +52,48 @@ module _ (pages counts : List ℕ) (k page : ℕ) (level : length counts ≡ len
 
   pub again :
       (at : ℕ) → has pages page ≡ true → at ≡ place page pages → at < length pages → distinct pages ≡ true →
-      entry page (min (get_or counts at 0 + 1) most) ∷ paired (remove pages at) (remove counts at) ≡ served k held page
+      entry page (min (get_or counts at 0 + 1) most) ∷ remove held at ≡ served k held page
   again at there is lt once =
       let o = others_there pages counts page level once (omega arith) in
       let c = count_there pages counts page level (omega arith) in
       let s = served_here k held page (has_same ∙ there) in
-      let r = paired_removed pages counts at level lt in
       let e : min (get_or counts at 0 + 1) most ≡ min (suc (count_of held page)) most = let f : get_or counts at 0 ≡ count_of held page = rw is (sym c) in omega arith in
-      rw (e, r, is) (rw (← o) (sym s))
+      rw (e, is) (rw (← o) (sym s))
 
-  pub room : has pages page ≡ false → length pages < k → entry page 1 ∷ held ≡ served k held page
-  room absent free = let m = length_paired pages counts level in sym (served_free k held page (has_same ∙ absent) (omega arith))
+  pub room : (at : ℕ) → has pages page ≡ false → at ≡ length pages → length pages < k → entry page 1 ∷ remove held at ≡ served k held page
+  room at absent is free =
+      let m = length_paired pages counts level in
+      rw (removed_past held at (omega arith)) (sym (served_free k held page (has_same ∙ absent) (omega arith)))
 
   pub full :
-      (at : ℕ) → has pages page ≡ false → at ≡ last_least counts → k ≤ length pages → 0 < length pages →
-      entry page 1 ∷ paired (remove pages at) (remove counts at) ≡ served k held page
+      (at : ℕ) → has pages page ≡ false → at ≡ last_least counts → k ≤ length pages → 0 < length pages → entry page 1 ∷ remove held at ≡ served k held page
   full at absent is all some =
       let m = length_paired pages counts level in
-      let w = last_within counts (omega arith) in
-      let r = paired_removed pages counts at level (omega arith) in
       let l = spared_least pages counts level some in
-      rw (r, is) (rw (← l) (sym (served_full k held page (has_same ∙ absent) (omega arith))))
+      rw is (rw (← l) (sym (served_full k held page (has_same ∙ absent) (omega arith))))
 
--- a page taken out of a row where none stands twice
+  -- no page stands twice afterwards either
+  served_once : 0 < k → length pages ≤ k → distinct pages ≡ true → distinct (pages_in (served k held page)) ≡ true
+  unfolding served
+  served_once some few once =
+      let c : Cached k (pages_in held) = rw (pages_paired pages counts level) (record { fits = few; apart = once }) in
+      (least_goes k held page (min (suc (count_of held page)) most) some c).cached.apart
 
-has_removed : (xs : List ℕ) (i x : ℕ) → has (remove xs i) x ≡ true → has xs x ≡ true
-unfolding has
-has_removed [] zero x h = h
-has_removed [] (suc i) x h = h
-has_removed (y ∷ xs) zero x h = grind (arith, nat_tests)
-has_removed (y ∷ xs) (suc i) x h = let r = has_removed xs i x in grind (arith, nat_tests)
+-- the page and its count come to the front of the first n of two rows, in the place of others or behind them
+module _
+    (k n at m page count : ℕ) (pages counts pages' counts' : List ℕ) (long : length pages ≡ k) (level : length counts ≡ length pages) (few : n ≤ k) (some : 0 < k)
+    (up_to : at ≤ n) (within : at < k) (sized : m ≡ max n (at + 1)) (p : pages' ≡ page ∷ remove pages at) (q : counts' ≡ count ∷ remove counts at)
+    (after : entry page count ∷ remove (paired (take n pages) (take n counts)) at ≡ served k (paired (take n pages) (take n counts)) page) where
+  put : paired (take m pages') (take m counts') ≡ served k (paired (take n pages) (take n counts)) page
+  put = rw (p, q) (put_both pages counts n at m page count level up_to (omega arith) sized ∙ after)
 
-pub distinct_removed : (xs : List ℕ) (i : ℕ) → distinct xs ≡ true → distinct (remove xs i) ≡ true
-unfolding distinct has
-distinct_removed [] zero d = d
-distinct_removed [] (suc i) d = d
-distinct_removed (x ∷ xs) zero d = grind (arith, nat_tests)
-distinct_removed (x ∷ xs) (suc i) d =
-    let r = distinct_removed xs i in
-    let h = has_removed xs i x in
-    grind (arith, nat_tests)
+  pub goes :
+      (further : List ℕ) →
+      pages_in (onward (served k) (paired (take m pages') (take m counts')) further) ≡ pages_in (onward (served k) (paired (take n pages) (take n counts)) (further ++ page ∷ []))
+  goes further = ap pages_in (goes_on (served k) (paired (take n pages) (take n counts)) (paired (take m pages') (take m counts')) page put further)
 
-first_absent : (x : ℕ) (xs : List ℕ) → distinct (x ∷ xs) ≡ true → (has xs x ≡ false) × (distinct xs ≡ true)
-unfolding distinct
-first_absent x xs d = (grind (arith, nat_tests), grind (arith, nat_tests))
-
-place_removed : (xs : List ℕ) (x : ℕ) → distinct xs ≡ true → has (remove xs (place x xs)) x ≡ false
-unfolding distinct has place
-place_removed [] x d = refl
-place_removed (y ∷ xs) x d = go (place_removed xs x) (eqb y x) refl
-  where
-    go : (distinct xs ≡ true → has (remove xs (place x xs)) x ≡ false) → (t : Bool) → eqb y x ≡ t → has (remove (y ∷ xs) (cond t 0 (suc (place x xs)))) x ≡ false
-    go rest true same = rw (← eqb-true y x same) (first_absent y xs d).0
-    go rest false other = rw other (rest (first_absent y xs d).1)
-
-module _ (before after : List ℕ) (i : ℕ) (e : after ≡ remove before i) where
-  pub still_once : distinct before ≡ true → distinct after ≡ true
-  still_once d = rw e (distinct_removed before i d)
-
-  pub still_absent : (page : ℕ) → has before page ≡ false → has after page ≡ false
-  still_absent page absent = let h = has_removed before i page in rw e (grind (arith, nat_tests))
-
-  pub gone : (page : ℕ) → i ≡ place page before → distinct before ≡ true → has after page ≡ false
-  gone page is d = rw (e, is) (place_removed before page d)
-
--- the page comes to the front
-
-pub front_once : (rest after : List ℕ) (page : ℕ) → after ≡ page ∷ rest → has rest page ≡ false → distinct rest ≡ true → distinct after ≡ true
-unfolding distinct
-front_once rest after page e absent d = rw (e, absent) d
-
-pub goes :
-    (k page count : ℕ) (pages counts rest left pages' counts' : List ℕ) → pages' ≡ page ∷ rest → counts' ≡ count ∷ left →
-    entry page count ∷ paired rest left ≡ served k (paired pages counts) page → (further : List ℕ) →
-    pages_in (onward (served k) (paired pages' counts') further) ≡ pages_in (onward (served k) (paired pages counts) (further ++ page ∷ []))
-unfolding paired
-goes k page count pages counts rest left pages' counts' p q e further =
-    ap pages_in (goes_on (served k) (paired pages counts) (paired pages' counts') page (rw (p, q) e) further)
+  pub goes_once : length counts' ≡ length pages' → distinct (take n pages) ≡ true → distinct (take m pages') ≡ true
+  goes_once level' once =
+      let l = length-take n pages in
+      let e = pages_paired (take m pages') (take m counts') (level_front m pages' counts' level') in
+      ap distinct (sym e ∙ ap pages_in put) ∙ served_once (take n pages) (take n counts) k page (level_front n pages counts level) some (omega arith) once

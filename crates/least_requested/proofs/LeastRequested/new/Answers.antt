@@ -6,10 +6,10 @@ use Rattle.least_requested.proofs.LeastRequested.new.Goals as goal
 
 pub invariant_of-result-clause-once : goal.invariant_of-result-clause-once
 unfolding distinct
-invariant_of-result-clause-once c = rw c.in_ok-pages.ensures.items refl
+invariant_of-result-clause-once c = refl
 
 pub returns-clause-cases : goal.returns-clause-cases
 unfolding paired
 returns-clause-cases c =
     let is : c.in_ok-capacity.capacity.places ≡ c.args.k = rw c.in_ok-capacity.ensures.ok_part at c.new.ensures.cases in
-    rw (c.in_ok-pages.ensures.items, is) (counting_does c.args.k (omega (arith, is)))
+    rw is (counting_does c.args.k (omega (arith, is)))
