@@ -25,10 +25,10 @@ fn shape(cache: &[u64], index_len: usize) -> Option<Capacity>
 }
 
 // Between a small cache and any other a middling one is checked with an index of its own: a larger one costs more to clear than such a
-// cache to serve.
-const MIDDLE_CAPACITY: usize = 512;
+// cache to serve. `fetches` plays with indexes of the same sizes.
+pub(crate) const MIDDLE_CAPACITY: usize = 512;
 
-const MIDDLE_ROW: usize = 9 * MIDDLE_CAPACITY + 5;
+pub(crate) const MIDDLE_ROW: usize = 9 * MIDDLE_CAPACITY + 5;
 
 // The pages of a cache row, which are no more than it has places.
 #[derive(Clone, Copy)]

@@ -9,10 +9,10 @@ ghost use Rattle.lru_cache.specs.Outcomes.{fetches_of, outcomes};
 ghost use Rattle.lru_cache.specs.Rows.{refusal, unplayed};
 ghost use Rattle.lru_cache.specs.Promises.{Bounded, Indexed, Played, Served};
 
-use crate::checks::{check, first_wide};
+use crate::checks::{MIDDLE_CAPACITY, MIDDLE_ROW, check, first_wide};
 use crate::indexes::{close, open};
 use crate::refusals::Refusal;
-use recency::{LARGEST_ROW, Outcome};
+use recency::{Capacity, LARGEST_ROW, Outcome, SMALL_CAPACITY, SMALL_ROW};
 use rows::write_at;
 
 // How many fetches an outcome stands for.
@@ -61,17 +61,37 @@ pub fn play(
     Ok(fetches)
 }
 
+// How many requests of a trace are fetched from an empty cache, on an index of N numbers of its own.
+fn fetches_apart<const N: usize>(trace: &[u64], capacity: Capacity) -> u64
+    requires room { 9 * capacity.places + 5 ≤ N }
+    requires size { N ≤ 65536 }
+    ensures value { result ≡ lru_fetches capacity.places [] trace.now }
+{
+    let k = capacity.places;
+    let mut index = [0; N];
+    recency::clear(&mut index, k);
+    run(&mut index, k, trace, &mut [])
+}
+
+// The same with an index of a size that fits the capacity, as `check` has one: the largest costs more to clear than a short trace to play.
+fn fetches_within(trace: &[u64], capacity: Capacity) -> u64
+    ensures value { result ≡ lru_fetches capacity.places [] trace.now }
+{
+    match capacity.places {
+        0..=SMALL_CAPACITY => fetches_apart::<SMALL_ROW>(trace, capacity),
+        0..=MIDDLE_CAPACITY => fetches_apart::<MIDDLE_ROW>(trace, capacity),
+        _ => fetches_apart::<LARGEST_ROW>(trace, capacity),
+    }
+}
+
 // How many requests of a trace LRU fetches from an empty cache of k places, on an index of its own.
 pub fn fetches(trace: &[u64], k: usize) -> Result<u64, Refusal>
     ensures counted { IfOk result (λ n. (n ≡ lru_fetches k [] trace.now) × Bounded k trace.now n) }
     ensures refused { result_err result ≡ unplayed k trace.now }
 {
-    let mut index = [0; LARGEST_ROW];
-    if !recency::clear(&mut index, k) {
-        return Err(Refusal::NoCache);
-    }
+    let capacity = Capacity::new(k).ok_or(Refusal::NoCache)?;
     first_wide(trace)?;
-    Ok(run(&mut index, k, trace, &mut []))
+    Ok(fetches_within(trace, capacity))
 }
 
 // One request on an open index of capacity k: recency's, public here too, with what it leaves said as `open` says it.
