@@ -10,7 +10,9 @@ use lru_cache::Refusal;
 use recency::{LARGEST_ROW, SMALL_CAPACITY, SMALL_ROW};
 
 impl Reading<'_> {
-    // Refuses what breaks the rules, with two indexes of N numbers of its own. `accept` chooses N as `step` does: `step_apart` says why.
+    // Refuses what breaks the rules, with two indexes of N numbers of its own. `accept` chooses N as `step` does: `step_apart` says why, and why
+    // it is not copied into its caller.
+    #[inline(never)]
     fn refuse_apart<const N: usize>(self, shown: &[u64]) -> Result<(), Refusal>
         requires room { 9 * self.challenge.k + 5 ≤ N }
         requires size { N ≤ 65536 }

@@ -9,7 +9,9 @@ use recency::{LARGEST_ROW, SMALL_CAPACITY, SMALL_ROW};
 
 impl Challenge {
     // A step with two indexes of N numbers of its own. `accept` chooses between two sizes of them as `step` does: of a closure that one
-    // function would lend the indexes, a proof knows what it answers, and not what it wrote in the row.
+    // function would lend the indexes, a proof knows what it answers, and not what it wrote in the row. Not copied into `step`: there a step of
+    // a small policy would touch the stack of the larger indexes, page by page.
+    #[inline(never)]
     #[tactic(auto, using(crate::proofs::Chosen::broken_few, crate::proofs::Broken::unasked_none))]
     fn step_apart<const N: usize>(
         self,
