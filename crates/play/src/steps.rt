@@ -63,8 +63,11 @@ impl<W: Write> Playing<W> {
         }
     }
 
-    // Writes the summary for k places, which the text then holds.
+    // Writes the summary for k places, which the text then holds. Here and in the two below the day stays as it was, a fault or not: each
+    // speaks of what came in.
     pub(crate) fn sum_up(&mut self, k: usize) -> Result<(), Fault>
+        ensures day { self.new.day ≡ self.old.day }
+        ensures detail { self.new.detail ≡ self.old.detail }
         ensures lines { is_ok result ≡ true → Summed (kept self.old.day) self.old.day.total k [] (string_bytes self.new.text) }
     {
         self.text.clear();
@@ -74,6 +77,8 @@ impl<W: Write> Playing<W> {
 
     // Writes the report, which the text then holds.
     pub(crate) fn report(&mut self) -> Result<(), Fault>
+        ensures day { self.new.day ≡ self.old.day }
+        ensures detail { self.new.detail ≡ self.old.detail }
         ensures lines { is_ok result ≡ true → string_bytes self.new.text ≡ report_of (kept self.old.day) self.old.day.total self.old.day.reported }
     {
         self.text.clear();
@@ -83,6 +88,8 @@ impl<W: Write> Playing<W> {
 
     // Writes the picture of the report to the file, with a mark at k places.
     pub(crate) fn draw(&mut self, rt: &HostRuntime, path: &str, k: usize) -> Result<(), Fault>
+        ensures day { self.new.day ≡ self.old.day }
+        ensures detail { self.new.detail ≡ self.old.detail }
         ensures drawn { is_ok result ≡ true → Pictured (kept self.old.day) self.old.day.reported k [] (string_bytes self.new.text) }
     {
         let day = &self.day;
@@ -98,6 +105,7 @@ impl<W: Write> Step for Playing<W> {
     // Serves the requests, whose lines the text then holds, and writes these where they are asked for.
     fn take(&mut self, piece: Piece<'_>) -> Result<(), Fault>
         ensures went { Went self.old.day (requests_in piece.entry.bytes.now) self.new.day }
+        ensures detail { self.new.detail ≡ self.old.detail }
         ensures lines { is_ok result ≡ true → string_bytes self.new.text ≡ lines_for (capacity self.old.day.cache) (cached self.old.day.cache) (requests_in piece.entry.bytes.now) }
     {
         self.text.clear();

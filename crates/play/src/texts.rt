@@ -72,7 +72,9 @@ impl Source for Texts {
     fn take_some<R: Read, S: Step>(&mut self, input: &mut R, step: &mut S) -> Result<usize, Fault> {
         let mut piece = [0u8; TEXT];
         let n = read_some(input, &mut piece)?;
-        self.take_in(&piece[..n], step)?;
+        if n > 0 {
+            self.take_in(&piece[..n], step)?;
+        }
         Ok(n)
     }
 
