@@ -12,15 +12,24 @@ use least_requested::LeastRequested;
 use policies::Lru;
 use rounds::challenge;
 use setting::{PLACES, Setting};
+use std::process::ExitCode;
+
+// What differs is told on standard output, so that nothing is told on standard error: a fault is the status alone.
+fn main(rt: HostRuntime) -> ExitCode {
+    match challenge_all(&rt) {
+        Ok(()) => ExitCode::SUCCESS,
+        Err(_) => ExitCode::FAILURE,
+    }
+}
 
 // Every number of places, with every smaller one beside it.
-fn main(rt: HostRuntime) -> anyhow::Result<()> {
+fn challenge_all(rt: &HostRuntime) -> anyhow::Result<()> {
     for k in 1..=PLACES {
         for h in 1..=k {
             let setting = Setting { k, h };
-            challenge::<Lru>(&rt, "LRU", setting)?;
-            challenge::<Fifo>(&rt, "FIFO", setting)?;
-            challenge::<LeastRequested>(&rt, "least requested", setting)?;
+            challenge::<Lru>(rt, "LRU", setting)?;
+            challenge::<Fifo>(rt, "FIFO", setting)?;
+            challenge::<LeastRequested>(rt, "least requested", setting)?;
         }
     }
     Ok(())

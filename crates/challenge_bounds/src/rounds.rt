@@ -36,7 +36,7 @@ impl<P: Policy> Run<P> {
         for rounds in 0..=ROUNDS {
             self.ask(n)?;
             self.seen.read(self.challenge, &self.row, n)?;
-            let counts = self.seen.count(setting)?;
+            let counts = self.seen.count(setting);
             ensure!(counts == Counts::of(setting, rounds), "a wrong count");
             n = setting.k;
         }
@@ -60,7 +60,7 @@ pub fn challenge<P: WithCapacity + Drop>(
         seen: Seen::new(heap),
     };
     let played = run.play(setting);
-    let counts = run.seen.count(setting)?;
+    let counts = run.seen.count(setting);
     println!(rt; "{name} {setting}: {counts}")?;
     if played.is_err() {
         rt.println(

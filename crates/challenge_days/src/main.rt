@@ -3,6 +3,7 @@
 
 use contest::contest;
 use std::io;
+use std::process::ExitCode;
 use trace::{PolicyKind, Settings};
 
 // k, h and how many rounds: a row of three numbers for each day, which one loop takes apart, since names in each row would only repeat these.
@@ -17,8 +18,17 @@ const DAYS: [(u16, u16, u16); 8] = [
     (4097, 1, 1),
 ];
 
+// What is said of a challenge, a refusal too, is told on standard output, so that nothing is told on standard error: a fault is the status
+// alone.
+fn main(rt: HostRuntime) -> ExitCode {
+    match challenge_all(&rt) {
+        Ok(()) => ExitCode::SUCCESS,
+        Err(_) => ExitCode::FAILURE,
+    }
+}
+
 // Every setting, against each policy.
-fn main(rt: HostRuntime) -> anyhow::Result<()> {
+fn challenge_all(rt: &HostRuntime) -> anyhow::Result<()> {
     for (capacity, places, rounds) in DAYS {
         for kind in PolicyKind::ALL {
             let settings = Settings {
@@ -27,7 +37,7 @@ fn main(rt: HostRuntime) -> anyhow::Result<()> {
                 rounds,
                 policy: u8::from(kind),
             };
-            head(&rt, settings)?;
+            head(rt, settings)?;
             contest(rt.alloc(), settings, &mut rt.stdout())?;
         }
     }

@@ -13,6 +13,7 @@ use compares::compare;
 use generator::Habit;
 use lru_cache::Capacity;
 use std::io;
+use std::process::ExitCode;
 use tallies::{Close, Tally};
 
 // How many days of each kind.
@@ -26,17 +27,25 @@ const HABITS: [Habit; 5] = [
     Habit::TwoScans,
 ];
 
+// What differs is told on standard output, so that nothing is told on standard error: a fault is the status alone.
+fn main(rt: HostRuntime) -> ExitCode {
+    match compare_all(&rt) {
+        Ok(()) => ExitCode::SUCCESS,
+        Err(_) => ExitCode::FAILURE,
+    }
+}
+
 // Every kind of day, beside every number of places.
-fn main(rt: HostRuntime) -> anyhow::Result<()> {
+fn compare_all(rt: &HostRuntime) -> anyhow::Result<()> {
     let mut total = Tally::default();
     for habit in HABITS {
         for h in 1..=3 {
-            let tally = days(&rt, habit, Capacity { places: h })?;
-            tell(&rt, habit, h, tally)?;
+            let tally = days(rt, habit, Capacity { places: h })?;
+            tell(rt, habit, h, tally)?;
             total.add_all(tally);
         }
     }
-    end(&rt, total)
+    end(rt, total)
 }
 
 // All days of a kind beside so many places.
