@@ -44,4 +44,4 @@ returns-clause-ran g c =
     let m = rw c.in_ok-map_err.was at (mapped c.accept.result c.map_err.result _ c.map_err.ensures.cases) in
     let kept = rw m at c.accept.ensures.kept in
     whole_ran s.k s.h c.args.rounds (policy c.args.keeper.now) s.low s.within c.in_ok-end.end c.ask_all.new.row
-    against c.shown.result.now is kept (policy c.ask_all.new.keeper) led _ totals
+    against c.shown.result.now is kept (policy c.ask_all.new.keeper) led _ (search (rules, totals))
