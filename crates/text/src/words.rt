@@ -10,7 +10,7 @@ fn with_digit(number: u32, byte: u8) -> Option<u32>
     ensures value { result ≡ with_digit number byte }
 {
     match byte {
-        b'0'..=b'9' => number.checked_mul(10)?.checked_add(u32::from(byte - b'0')),
+        b'0'..=b'9' => u32::try_from(10 * u64::from(number) + u64::from(byte - b'0')).ok(),
         _ => None,
     }
 }
@@ -31,10 +31,8 @@ pub fn number(word: &[u8]) -> Option<u64>
 fn ends_mark(word: &[u8], byte: u8) -> bool
     ensures value { result ≡ ends_mark word.now byte }
 {
-    match word {
-        [first, second] => byte == 0xbf && *first == 0xef && *second == 0xbb,
-        _ => false,
-    }
+    // The byte is asked for first: few texts have another word with one.
+    byte == 0xbf && matches!(word, [0xef, 0xbb])
 }
 
 impl Reader {
